@@ -1,13 +1,8 @@
 -- In an accepted definition's editor the steps by the open judgement are those by legal completions.
-use Rattle.std.proofs.Common.{◌≡◌, ◌↔◌, ℕ}
-use Rattle.psg_grammar.specs.declared.types.Kind.{Kind}
 use Rattle.psg_grammar.specs.declared.types.Definition.{Definition}
-use Rattle.psg_grammar.specs.Fragments.{Fragment}
 use Rattle.psg_grammar.specs.Legal.{IsCompletable}
-use Rattle.psg_grammar.specs.Marks.{Mark, IsMark, IsMarkBy}
 use Rattle.psg_grammar.specs.Open.{IsOpen}
 use Rattle.psg_grammar.specs.Sound.{IsSound}
-use Rattle.psg_grammar.specs.WellFormed.{WellFormed}
 use Rattle.psg_completions.specs.Completions.{MarkedByCompletions, OpenOrCompletable}
 use Rattle.psg_menu.specs.Menus.{HasQuietSlots}
 use Rattle.psg_completions.proofs.Law.{open_or_completable}

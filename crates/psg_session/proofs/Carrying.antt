@@ -1,5 +1,5 @@
 -- What a planned change is answered, from what is found of its tree.
-use Rattle.std.proofs.Common.{◌≡◌, ◌⊎◌, inl, inr, ℕ, ◌+◌, ◌≤◌, List, [], ◌∷◌, Some, None, Option, Result, Ok, Err, refl, sym, ◌∙◌, ap, subst}
+use Rattle.std.proofs.Common.{◌≡◌, ◌⊎◌, inl, inr, ℕ, ◌+◌, ◌≤◌, List, [], Some, Option, Result, Ok, Err, refl, sym, ap, subst}
 use Rattle.psg_terms.specs.Names.{Name}
 use Rattle.psg_grammar.specs.declared.types.Kind.{Kind}
 use Rattle.psg_grammar.specs.declared.types.Definition.{Definition}
@@ -16,7 +16,6 @@ use Rattle.psg_script.specs.declared.command.Command.TheVariants.{New}
 use Rattle.psg_session.specs.declared.changes.Proposal.{Proposal}
 use Rattle.psg_session.specs.declared.editor.Editor.{Editor}
 use Rattle.psg_session.specs.declared.editor.OpenedTree.{OpenedTree}
-use Rattle.psg_session.specs.declared.editor.Outcome.{Outcome}
 use Rattle.psg_session.specs.declared.editor.Outcome.TheVariants.{Stays, Opens as OpensTree, Changes}
 use Rattle.psg_session.specs.declared.judging.Trial.{Trial}
 use Rattle.psg_session.specs.declared.judging.Trial.TheVariants.{Opens, Grows, Types, Closes, Loosens}
@@ -25,11 +24,13 @@ use Rattle.psg_session.specs.declared.refusal.Refusal.TheVariants.{NoPlaceholder
 use Rattle.psg_session.specs.declared.replies.Mark.{Mark}
 use Rattle.psg_library.specs.declared.fragment.SavedFragment.{SavedFragment as Saved}
 use Rattle.psg_session.specs.declared.replies.Reply.TheVariants.{Refused}
+use Rattle.psg_session.specs.declared.stop.Stop.{Stop}
+use Rattle.psg_session.specs.declared.stop.Stop.TheVariants as stops
 use Rattle.psg_session.specs.Edits.{cost_of, edited, MayEdit}
 use Rattle.psg_session.specs.Good.{IsGoodIn}
-use Rattle.psg_session.specs.Outcomes.{changed, IsFit, IsJudged, IsProposal, IsOutcome, tree_tests}
+use Rattle.psg_session.specs.Outcomes.{changed, IfFound, IsFit, IsJudged, IsPlan, IsProposal, IsOutcome, tree_tests}
 use Rattle.psg_session.specs.PlainState.{Opened, State, not_asked, with_change, with_new}
-use Rattle.psg_session.specs.PlainStep.{by_change, by_new, changes, closing, Gives, growing, HasName, IsDeclaringPhylum, IsRefused, loosening, OfResult, opening, opens, refuses, Steps}
+use Rattle.psg_session.specs.PlainStep.{by_change, by_new, changes, Gives, HasName, IsDeclaringPhylum, OfResult, opens, refuses, Steps}
 use Rattle.psg_session.specs.Refusals.{Passes, Refuses}
 use Rattle.psg_session.specs.Replies.{marked}
 use Rattle.psg_session.specs.Sessions.{IsEditor, IsVersion, opened_of, plain, state_of}
@@ -85,7 +86,7 @@ module _ (def : Definition) (e : Editor) (command : Command) (m : Proposal) (mad
   down P (other, is, h) = subst P (made.only other is) h
 
   -- its tree fails a test
-  pub refused_late : (r : Refusal) → IsJudged def m.trial tree (Err r)
+  pub refused_late : (r : Refusal) → IsJudged def m.trial tree (Err (stops.Refused r))
       → IsOutcome def e not_asked command (Stays (Refused r))
   refused_late r fails = record {
     steps = refuses (made.refused r (refuses_again def (λ P. P tree) (OfResult def (state_of e) command) up down
@@ -140,14 +141,15 @@ module _ (def : Definition) (e : Editor) (command : Command) (m : Proposal) (mad
         (small_by def (tree_in made.held.note) tree
         (opened_version def e made.held editor made.opened).noted.within m.trial made.sized)
 
-    judged_here : (answer : Result Annotated Refusal) → IsJudged def m.trial (edited m.edit (tree_in held.note)) answer
+    judged_here : (answer : Result Annotated Stop) → IsJudged def m.trial (edited m.edit (tree_in held.note)) answer
         → IsJudged def m.trial tree answer
     judged_here answer h =
         subst (λ (h' : OpenedTree). IsJudged def m.trial (edited m.edit (tree_in h'.note)) answer) same_held h
 
-    pub refused_here : (r : Refusal) → IsJudged def m.trial (edited m.edit (tree_in held.note)) (Err r)
-        → IsOutcome def e not_asked command (Stays (Refused r))
-    refused_here r h = refused_late r (judged_here (Err r) h)
+    pub refused_here : (stop : Stop) → IsJudged def m.trial (edited m.edit (tree_in held.note)) (Err stop)
+        → IfFound (Err stop) (IsOutcome def e not_asked command)
+    refused_here (stops.Refused r) h = refused_late r (judged_here (Err (stops.Refused r)) h)
+    refused_here stops.Memory h = tt
 
     pub changed_here : IsEditor def e → (note : Annotated)
         → IsJudged def m.trial (edited m.edit (tree_in held.note)) (Ok note) → (mark : Mark)
@@ -160,10 +162,10 @@ module _ (def : Definition) (e : Editor) (command : Command) (m : Proposal) (mad
         made_ticks from to (subst (λ (h' : OpenedTree). to ≤ from + cost_of m.edit (tree_in h'.note)) same_held h)
 
 -- a plan that refuses
-pub refused_plan : (def : Definition) (e : Editor) (command : Command) (r : Refusal)
-    → IsRefused def (IsGoodIn def) (state_of e) not_asked command r
-    → IsOutcome def e not_asked command (Stays (Refused r))
-refused_plan def e command r is = record { steps = refuses is; fit = tt }
+pub refused_plan : (def : Definition) (e : Editor) (command : Command) (stop : Stop) → IsPlan def e command (Err stop)
+    → IfFound (Err stop) (IsOutcome def e not_asked command)
+refused_plan def e command (stops.Refused r) is = record { steps = refuses is; fit = tt }
+refused_plan def e command stops.Memory is = tt
 
 -- ---- a new fragment
 
@@ -207,9 +209,10 @@ module _ (def : Definition) (e : Editor) (name : Name) where
       lowers : (P : Fragment → Type 0) → OfResult def (state_of e) (New name) P → P (blank def kind)
       lowers P (other, is, h) = subst P (only_blank other is) h
 
-      pub new_refused : (r : Refusal) → IsJudged def Opens (blank def kind) (Err r)
-          → IsOutcome def e not_asked (New name) (Stays (Refused r))
-      new_refused r fails = record {
+      pub new_refused : (stop : Stop) → IsJudged def Opens (blank def kind) (Err stop)
+          → IfFound (Err stop) (IsOutcome def e not_asked (New name))
+      new_refused stops.Memory fails = tt
+      new_refused (stops.Refused r) fails = record {
         steps = refuses (inr (
           knows,
           inr (

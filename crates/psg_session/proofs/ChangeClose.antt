@@ -1,11 +1,11 @@
 -- What it is answered that a list is closed, before its tree is tested.
-use Rattle.std.proofs.Common.{arith, ◌≡◌, inl, inr, true, false, Some, refl, sym, ◌∙◌, ap, subst, ◌≤◌, ◌+◌}
+use Rattle.std.proofs.Common.{arith, ◌≡◌, inl, inr, true, false, Some, refl, sym, ◌∙◌, ap, subst, Err}
 use Rattle.psg_grammar.specs.declared.types.Definition.{Definition}
 use Rattle.psg_grammar.specs.Fragments.{Fragment}
 use Rattle.psg_grammar.specs.Paths.{change_at, ended, replaced}
 use Rattle.psg_script.specs.declared.command.Where.{Where}
 use Rattle.psg_script.specs.declared.command.Command.TheVariants.{Close}
-use Rattle.psg_session.specs.declared.changes.Plan.TheVariants.{RefusedBy}
+use Rattle.psg_session.specs.declared.stop.Stop.TheVariants as stops
 use Rattle.psg_session.specs.declared.edits.Edit.TheVariants.{Put}
 use Rattle.psg_session.specs.declared.editor.Editor.{Editor}
 use Rattle.psg_session.specs.declared.finding.Target.{Target}
@@ -15,27 +15,24 @@ use Rattle.psg_session.specs.declared.refusal.Refusal.TheVariants.{NoPlace}
 use Rattle.psg_session.specs.PlainState.{Opened, named_path}
 use Rattle.psg_session.specs.PlainStep.{Gives, by_change, by_close, Makes, end_of}
 use Rattle.psg_session.specs.Outcomes.{IsTarget, IsProposal, HasNoTarget, IsPlan, proposal_of}
-use Rattle.psg_session.specs.Ticks.{above}
-use Rattle.psg_grammar.specs.Work.{work_of, climb_of}
 use Rattle.psg_grammar.specs.WellFormed.{WellFormed}
-use Rattle.psg_session.proofs.Ticking.{ended_work}
 use Rattle.psg_session.specs.Sessions.{IsEditor, plain, state_of}
 use Rattle.psg_cache.specs.Annotated.{tree_in}
 use Rattle.psg_session.proofs.Smaller.{ended_smaller}
 use Rattle.psg_session.proofs.StepLaws.{at_node, has_node, is_opened, is_there, nowhere, opened_is, path_is, same_old}
-use Rattle.psg_session.proofs.ChangeLaws.{finished_formed, may_put, put_is, cost_here}
+use Rattle.psg_session.proofs.ChangeLaws.{finished_formed, may_put, put_is}
 
 abbrev IsNotUnfinished : Opened → Fragment → Type 0
 IsNotUnfinished old node = end_of node ≡ Some true → ⊥
 
 module _ (def : Definition) (e : Editor) (place : Where) where
   -- nothing is opened, or there is no node
-  pub close_nowhere : (r : Refusal) → HasNoTarget e place r → IsPlan def e (Close place) (RefusedBy r)
+  pub close_nowhere : (r : Refusal) → HasNoTarget e place r → IsPlan def e (Close place) (Err (stops.Refused r))
   close_nowhere r none = nowhere def e place r none
 
   module _ (f : Target) (found : IsTarget e place f) where
     -- the node is no unfinished list
-    pub close_refused : (end_of f.node.now ≡ Some true → ⊥) → IsPlan def e (Close place) (RefusedBy NoPlace)
+    pub close_refused : (end_of f.node.now ≡ Some true → ⊥) → IsPlan def e (Close place) (Err (stops.Refused NoPlace))
     close_refused never = inr (
       is_opened def e place f found,
       inr (

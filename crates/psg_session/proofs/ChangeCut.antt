@@ -1,5 +1,5 @@
 -- What a cut is answered, before its tree is tested.
-use Rattle.std.proofs.Common.{arith, ◌≡◌, inl, inr, Some, refl, sym, ◌∙◌, ap, subst, ◌≤◌, ◌+◌}
+use Rattle.std.proofs.Common.{arith, ◌≡◌, inl, inr, refl, sym, ◌∙◌, ap, subst, Err}
 use Rattle.psg_grammar.specs.Insertion.{blank}
 use Rattle.psg_grammar.specs.Kinds.{HasKind, IsOfKind}
 use Rattle.psg_grammar.specs.declared.types.Kind.{Kind}
@@ -10,7 +10,7 @@ use Rattle.psg_cache.proofs.FormedTrees.{kind_once}
 use Rattle.psg_session.proofs.NewTrees.{blank_formed}
 use Rattle.psg_script.specs.declared.command.Where.{Where}
 use Rattle.psg_script.specs.declared.command.Command.TheVariants.{Cut}
-use Rattle.psg_session.specs.declared.changes.Plan.TheVariants.{RefusedBy}
+use Rattle.psg_session.specs.declared.stop.Stop.TheVariants as stops
 use Rattle.psg_session.specs.declared.edits.Edit.TheVariants.{Put}
 use Rattle.psg_session.specs.declared.editor.Editor.{Editor}
 use Rattle.psg_session.specs.declared.finding.Target.{Target}
@@ -20,19 +20,16 @@ use Rattle.psg_session.specs.declared.refusal.Refusal.TheVariants.{NoPlaceholder
 use Rattle.psg_session.specs.PlainState.{Opened, named_path}
 use Rattle.psg_session.specs.PlainStep.{AtNode, Gives, by_change, by_cut, IsDeclaringPhylum, Makes}
 use Rattle.psg_session.specs.Outcomes.{IsTarget, IsProposal, HasNoTarget, IsPlan, proposal_of}
-use Rattle.psg_session.specs.Ticks.{above}
-use Rattle.psg_grammar.specs.Work.{work_of, climb_of}
 use Rattle.psg_grammar.specs.WellFormed.{WellFormed}
-use Rattle.psg_session.proofs.Ticking.{blank_work}
 use Rattle.psg_session.specs.Sessions.{IsEditor, plain, state_of}
 use Rattle.psg_cache.specs.Annotated.{tree_in}
 use Rattle.psg_session.proofs.Smaller.{cut_smaller}
 use Rattle.psg_session.proofs.StepLaws.{at_node, has_node, is_opened, is_there, node_is, nowhere, opened_is, path_is, same_old}
-use Rattle.psg_session.proofs.ChangeLaws.{kind_is, may_put, put_is, cost_here}
+use Rattle.psg_session.proofs.ChangeLaws.{kind_is, may_put, put_is}
 
 module _ (def : Definition) (e : Editor) (place : Where) where
   -- nothing is opened, or there is no node
-  pub cut_nowhere : (r : Refusal) → HasNoTarget e place r → IsPlan def e (Cut place) (RefusedBy r)
+  pub cut_nowhere : (r : Refusal) → HasNoTarget e place r → IsPlan def e (Cut place) (Err (stops.Refused r))
   cut_nowhere r none = nowhere def e place r none
 
   abbrev Declares : Opened → Fragment → Type 0
@@ -47,7 +44,7 @@ module _ (def : Definition) (e : Editor) (place : Where) where
 
   module _ (f : Target) (found : IsTarget e place f) (kind : Kind) (is : IsOfKind def f.node.now kind) where
     -- a placeholder would not say which names it declares
-    pub cut_declares : IsDeclaringPhylum def kind → IsPlan def e (Cut place) (RefusedBy NoPlaceholder)
+    pub cut_declares : IsDeclaringPhylum def kind → IsPlan def e (Cut place) (Err (stops.Refused NoPlaceholder))
     cut_declares declares = inr (
       is_opened def e place f found,
       inr (

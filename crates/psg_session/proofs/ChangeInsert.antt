@@ -1,5 +1,5 @@
 -- What an insertion is answered, before its tree is tested.
-use Rattle.std.proofs.Common.{◌≡◌, ◌⊎◌, inl, inr, ℕ, ◌<◌, ◌≤◌, List, [], ◌∷◌, ◌++◌, length, Some, Ok, Err, refl, sym, ◌∙◌, ap, subst, arith, ◌+◌}
+use Rattle.std.proofs.Common.{◌≡◌, ◌⊎◌, inl, inr, ℕ, ◌<◌, ◌≤◌, List, [], ◌∷◌, ◌++◌, length, Some, Err, refl, sym, ◌∙◌, ap, subst, arith, ◌+◌}
 use Rattle.psg_terms.specs.Names.{Name}
 use Rattle.psg_grammar.specs.declared.types.ListKind.{ListKind}
 use Rattle.psg_grammar.specs.Insertion.{Leaf, fresh_operator, with_operator}
@@ -10,7 +10,8 @@ use Rattle.psg_grammar.specs.Sound.{IsSound}
 use Rattle.psg_script.specs.declared.command.Where.{Where}
 use Rattle.psg_script.specs.declared.command.Command.TheVariants.{Insert}
 use Rattle.psg_session.specs.declared.changes.Listed.{Listed}
-use Rattle.psg_session.specs.declared.changes.Plan.TheVariants.{RefusedBy}
+use Rattle.psg_session.specs.declared.stop.Stop.{Stop}
+use Rattle.psg_session.specs.declared.stop.Stop.TheVariants as stops
 use Rattle.psg_session.specs.declared.edits.Edit.TheVariants.{Add}
 use Rattle.psg_session.specs.declared.editor.Editor.{Editor}
 use Rattle.psg_session.specs.declared.finding.Target.{Target}
@@ -20,8 +21,7 @@ use Rattle.psg_session.specs.declared.refusal.Refusal.TheVariants.{NoPlace}
 use Rattle.psg_session.specs.PlainState.{Opened, named_path}
 use Rattle.psg_session.specs.PlainStep.{AtNode, Gives, by_change, by_insert, IsOfPhylum, IsOperator, IsOther, IsWanted, Makes}
 use Rattle.psg_session.specs.Outcomes.{IsTarget, IsFreshAnswer, IsListed, IsProposal, HasNoTarget, IsPlan, proposal_of}
-use Rattle.psg_session.specs.Ticks.{above, OfFresh}
-use Rattle.psg_grammar.specs.Work.{work_of, climb_of}
+use Rattle.psg_grammar.specs.Work.{work_of}
 use Rattle.psg_session.specs.Sessions.{plain, state_of}
 use Rattle.psg_cache.specs.Annotated.{tree_in}
 use Rattle.psg_session.proofs.StepLaws.{at_node, has_node, is_opened, is_there, nowhere, opened_is, path_is, same_old}
@@ -36,12 +36,12 @@ HasNoPlace k old node = (IsList node → ⊥) ⊎ (length (children_of node) < k
 
 module _ (def : Definition) (e : Editor) (place : Where) (k : ℕ) (name : Name) (args : List ℕ) where
   -- nothing is opened, or there is no node
-  pub insert_nowhere : (r : Refusal) → HasNoTarget e place r → IsPlan def e (Insert place k name args) (RefusedBy r)
+  pub insert_nowhere : (r : Refusal) → HasNoTarget e place r → IsPlan def e (Insert place k name args) (Err (stops.Refused r))
   insert_nowhere r none = nowhere def e place r none
 
   module _ (f : Target) (found : IsTarget e place f) where
     insert_no_place : HasNoPlace k (plain f.held.now) f.node.now
-        → IsPlan def e (Insert place k name args) (RefusedBy NoPlace)
+        → IsPlan def e (Insert place k name args) (Err (stops.Refused NoPlace))
     insert_no_place none = inr (
       is_opened def e place f found,
       inr (
@@ -51,12 +51,12 @@ module _ (def : Definition) (e : Editor) (place : Where) (k : ℕ) (name : Name)
     )
 
     -- the node is no list
-    pub insert_no_list : (IsList f.node.now → ⊥) → IsPlan def e (Insert place k name args) (RefusedBy NoPlace)
+    pub insert_no_list : (IsList f.node.now → ⊥) → IsPlan def e (Insert place k name args) (Err (stops.Refused NoPlace))
     insert_no_list never = insert_no_place (inl never)
 
     module _ (list : Listed) (listed : IsListed def f.node.now list) where
       -- the list has fewer elements
-      pub insert_behind : list.elements < k → IsPlan def e (Insert place k name args) (RefusedBy NoPlace)
+      pub insert_behind : list.elements < k → IsPlan def e (Insert place k name args) (Err (stops.Refused NoPlace))
       insert_behind less = insert_no_place (inr (let same = listed.elements in omega (arith, same, less)))
 
       abbrev wanted : IsWanted def (Some k) f.node.now list.kind.now.element
@@ -75,16 +75,17 @@ module _ (def : Definition) (e : Editor) (place : Where) (k : ℕ) (name : Name)
         usual h = no_bad_place (at_node def e place f found (HasNoPlace k) h)
 
         -- there is no such operator with these leaves
-        pub insert_refused : (r : Refusal) → IsFreshAnswer def list.kind.now.element name args (Err r)
-            → IsPlan def e (Insert place k name args) (RefusedBy r)
-        insert_refused r (inl (e', never)) = inr (
+        pub insert_refused : (stop : Stop) → IsFreshAnswer def list.kind.now.element name args (Err stop)
+            → IsPlan def e (Insert place k name args) (Err stop)
+        insert_refused stops.Memory h = tt
+        insert_refused (stops.Refused r) (inl (e', never)) = inr (
           is_opened def e place f found,
           inr (
             is_there def e place f found,
             inr (usual, inl (never, sym e')),
           ),
         )
-        insert_refused r (inr (inl (e', o, named, never))) =
+        insert_refused (stops.Refused r) (inr (inl (e', o, named, never))) =
             inr (
               is_opened def e place f found,
               inr (
@@ -102,7 +103,7 @@ module _ (def : Definition) (e : Editor) (place : Where) (k : ℕ) (name : Name)
                 ),
               ),
             )
-        insert_refused r (inr (inr (e', o, named, of, never))) =
+        insert_refused (stops.Refused r) (inr (inr (e', o, named, of, never))) =
             inr (
               is_opened def e place f found,
               inr (

@@ -1,5 +1,5 @@
 -- What typed text is answered, before its tree is tested.
-use Rattle.std.proofs.Common.{◌≡◌, ◌⊎◌, inl, inr, ℕ, ◌+◌, ◌<◌, ◌≤◌, List, length, Err, refl, sym, ◌∙◌, ap, subst, arith}
+use Rattle.std.proofs.Common.{◌≡◌, ◌⊎◌, inl, inr, ℕ, ◌+◌, ◌<◌, ◌≤◌, List, length, Err, refl, sym, ◌∙◌, ap, subst, arith, Ok, Result}
 use Rattle.psg_grammar.specs.Kinds.{IsOfKind}
 use Rattle.psg_grammar.specs.declared.types.Kind.{Kind}
 use Rattle.psg_grammar.specs.declared.types.Definition.{Definition}
@@ -14,7 +14,8 @@ use Rattle.psg_lexis.specs.declared.token.Spanned.{Spanned}
 use Rattle.psg_script.specs.declared.command.Where.{Where}
 use Rattle.psg_script.specs.declared.command.Command.TheVariants.{Over}
 use Rattle.psg_session.specs.declared.changes.Proposal.{Proposal}
-use Rattle.psg_session.specs.declared.changes.Plan.TheVariants.{RefusedBy, Makes as Plans}
+use Rattle.psg_session.specs.declared.stop.Stop.{Stop}
+use Rattle.psg_session.specs.declared.stop.Stop.TheVariants as stops
 use Rattle.psg_session.specs.declared.edits.Edit.TheVariants.{Put}
 use Rattle.psg_session.specs.declared.editor.Editor.{Editor}
 use Rattle.psg_session.specs.declared.editor.OpenedTree.{OpenedTree}
@@ -47,7 +48,7 @@ or_nests never (inr (shallow, x)) = inr (neither never shallow, x)
 
 module _ (def : Definition) (e : Editor) (place : Where) (text : List ℕ) where
   -- nothing is opened, or there is no node
-  pub over_nowhere : (r : Refusal) → HasNoTarget e place r → IsPlan def e (Over place text) (RefusedBy r)
+  pub over_nowhere : (r : Refusal) → HasNoTarget e place r → IsPlan def e (Over place text) (Err (stops.Refused r))
   over_nowhere r none = nowhere def e place r none
 
   abbrev Fails : Opened → Fragment → Type 0
@@ -102,11 +103,12 @@ module _ (def : Definition) (e : Editor) (place : Where) (text : List ℕ) where
           ]
 
       -- the text has no tree that may be put in
-      pub over_refused : (r : Refusal) → IsTextAnswer def kind text (Err r)
-          → IsPlan def e (Over place text) (RefusedBy r)
-      over_refused r (inl (is_r, none)) =
+      pub over_refused : (stop : Stop) → IsTextAnswer def kind text (Err stop)
+          → IsPlan def e (Over place text) (Err stop)
+      over_refused stops.Memory h = tt
+      over_refused (stops.Refused r) (inl (is_r, none)) =
           inr (is_opened def e place f found, inr (is_there def e place f found, inl (none, sym is_r)))
-      over_refused r (inr (inl (is_r, none))) =
+      over_refused (stops.Refused r) (inr (inl (is_r, none))) =
           inr (
             is_opened def e place f found,
             inr (
@@ -120,7 +122,7 @@ module _ (def : Definition) (e : Editor) (place : Where) (text : List ℕ) where
               ),
             ),
           )
-      over_refused r (inr (inr (is_r, deep))) =
+      over_refused (stops.Refused r) (inr (inr (is_r, deep))) =
           inr (
             is_opened def e place f found,
             inr (
@@ -254,7 +256,7 @@ module _ (def : Definition) (e : Editor) (place : Where) (text : List ℕ) where
         }
 
         pub made_spends : (made : Proposal) → made ≡ proposal_of Types (Put f.path.now new) f.path.now → (from so_far : ℕ)
-            → HasRead def text from so_far → MaySpend def e (Over place text) from so_far (Plans made)
+            → HasRead def text from so_far → MaySpend def e (Over place text) from so_far (Ok made)
         made_spends made is_made from so_far read to (inl same) =
             both_ticks from so_far to read (omega (arith, same))
         made_spends made is_made from so_far read to (inr (m, is_plan, held, opened, le)) =
@@ -263,19 +265,19 @@ module _ (def : Definition) (e : Editor) (place : Where) (text : List ℕ) where
             both_ticks from so_far to read
             (subst (λ (h : OpenedTree). to ≤ so_far + cost_of (Put f.path.now new) (tree_in h.note)) two
             (subst (λ (x : Proposal). to ≤ so_far + cost_of x.edit (tree_in held.note)) one le)) where
-              plan_once : (a b : Proposal) → Plans b ≡ Plans a → a ≡ b
+              plan_once : (a b : Proposal) → ◌≡◌ {A = Result Proposal Stop} (Ok b) (Ok a) → a ≡ b
               plan_once a b same = cc
 
   -- a plan that refuses spends nothing more
-  pub refused_spends : (r : Refusal) (from so_far : ℕ) → HasTicked def (state_of e) (Over place text) from so_far
-      → MaySpend def e (Over place text) from so_far (RefusedBy r)
-  refused_spends r from so_far ticked to (inl same) = record {
+  pub refused_spends : (stop : Stop) (from so_far : ℕ) → HasTicked def (state_of e) (Over place text) from so_far
+      → MaySpend def e (Over place text) from so_far (Err stop)
+  refused_spends stop from so_far ticked to (inl same) = record {
     taken = ticked.taken;
     counted = let h = ticked.counted in omega (arith, same, h);
     within = ticked.within;
   }
-  refused_spends r from so_far ticked to (inr (m, is_plan, held, opened, le)) = absurd (apart m is_plan) where
-    apart : (m : Proposal) → RefusedBy r ≡ Plans m → ⊥
+  refused_spends stop from so_far ticked to (inr (m, is_plan, held, opened, le)) = absurd (apart m is_plan) where
+    apart : (m : Proposal) → ◌≡◌ {A = Result Proposal Stop} (Err stop) (Ok m) → ⊥
     apart m same = cc
 
   -- nothing is opened or no node is there, and nothing was counted

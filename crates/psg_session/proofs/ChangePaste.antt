@@ -1,5 +1,5 @@
 -- What a paste is answered, before its tree is tested.
-use Rattle.std.proofs.Common.{◌≡◌, ◌↔◌, ◌==◌, Bool, IsTrue, inl, inr, ℕ, ◌<◌, ◌≤◌, ◌+◌, Option, Some, None, List, [], ◌∷◌, ◌++◌, length, refl, sym, ◌∙◌, ap, subst, arith}
+use Rattle.std.proofs.Common.{◌≡◌, ◌↔◌, ◌==◌, Bool, IsTrue, inl, inr, ℕ, ◌<◌, ◌≤◌, ◌+◌, Option, Some, None, List, [], ◌∷◌, ◌++◌, length, refl, sym, ◌∙◌, ap, subst, arith, Err}
 use Rattle.std.proofs.lemmas.Option.{none-some}
 use Rattle.psg_terms.specs.Names.{Name}
 use Rattle.psg_grammar.specs.declared.types.Kind.{Kind}
@@ -9,14 +9,14 @@ use Rattle.psg_grammar.specs.declared.types.Definition.{Definition}
 use Rattle.psg_grammar.specs.Fragments.{Fragment, hole, children_of}
 use Rattle.psg_grammar.specs.Kinds.{IsOfKind}
 use Rattle.psg_grammar.specs.Paths.{change_at, inserted, IsList, replaced}
-use Rattle.psg_grammar.specs.Work.{work_of, climb_of}
+use Rattle.psg_grammar.specs.Work.{work_of}
 use Rattle.psg_grammar.specs.WellFormed.{WellFormed}
 use Rattle.psg_cache.specs.Annotated.{tree_in}
 use Rattle.psg_cache.proofs.FormedTrees.{kind_once}
 use Rattle.psg_script.specs.declared.command.Where.{Where}
 use Rattle.psg_script.specs.declared.command.Command.TheVariants.{Paste}
 use Rattle.psg_session.specs.declared.changes.Listed.{Listed}
-use Rattle.psg_session.specs.declared.changes.Plan.TheVariants.{RefusedBy}
+use Rattle.psg_session.specs.declared.stop.Stop.TheVariants as stops
 use Rattle.psg_session.specs.declared.edits.Edit.TheVariants.{Put, Add}
 use Rattle.psg_session.specs.declared.editor.Editor.{Editor}
 use Rattle.psg_session.specs.declared.judging.Trial.TheVariants.{Grows}
@@ -30,7 +30,6 @@ use Rattle.psg_session.specs.PlainState.{Opened, named_path}
 use Rattle.psg_session.specs.PlainStep.{AtNode, by_change, by_paste, by_paste_in, Gives, HasNoRoom, IsEmptyPlace, IsOtherSaved, Makes, MayTake}
 use Rattle.psg_session.specs.Sessions.{IsEditor, plain, state_of}
 use Rattle.psg_session.specs.Shelf.{saved_at}
-use Rattle.psg_session.specs.Ticks.{above, OfSaved}
 use Rattle.psg_session.proofs.ChangeLaws.{cost_here, kind_is, may_put, one_list_kind, put_is}
 use Rattle.psg_session.proofs.Options.{empty_is}
 use Rattle.psg_session.proofs.Shelving.{kept_at}
@@ -68,7 +67,7 @@ module _ (def : Definition) (node : Fragment) where
 
 module _ (def : Definition) (e : Editor) (place : Where) (k : Option ℕ) (name : Name) where
   -- nothing is opened, or there is no such fragment or no node
-  pub paste_nowhere : (r : Refusal) → IsNoSource e place name r → IsPlan def e (Paste place k name) (RefusedBy r)
+  pub paste_nowhere : (r : Refusal) → IsNoSource e place name r → IsPlan def e (Paste place k name) (Err (stops.Refused r))
   paste_nowhere r (inl (is, none)) = inl (not_opened def e none, sym is)
   paste_nowhere r (inr (held, opened, inl (is, none))) = inr (is_opened_by def e held opened, inl (none, sym is))
   paste_nowhere r (inr (held, opened, inr (is, x, at, none))) = inr (
@@ -104,7 +103,7 @@ module _ (def : Definition) (e : Editor) (place : Where) (name : Name) (x : Sour
   -- ---- in place of the node
 
   -- the node is neither a placeholder nor an empty list
-  pub paste_no_hole : (IsEmptyPlace def x.found.node.now → ⊥) → IsPlan def e (Paste place None name) (RefusedBy NotHole)
+  pub paste_no_hole : (IsEmptyPlace def x.found.node.now → ⊥) → IsPlan def e (Paste place None name) (Err (stops.Refused NotHole))
   paste_no_hole never = inr (
     is_opened def e place x.found source.found,
     inr (
@@ -122,7 +121,7 @@ module _ (def : Definition) (e : Editor) (place : Where) (name : Name) (x : Sour
 
     -- the fragment is of another kind than the node
     pub paste_other : (kind : Kind) → IsOfKind def x.found.node.now kind → (x.saved.now.kind ≡ kind → ⊥)
-        → IsPlan def e (Paste place None name) (RefusedBy OtherPhylum)
+        → IsPlan def e (Paste place None name) (Err (stops.Refused OtherPhylum))
     paste_other kind is never = inr (
       is_opened def e place x.found source.found,
       inr (
@@ -205,7 +204,7 @@ module _ (def : Definition) (e : Editor) (place : Where) (name : Name) (x : Sour
   -- ---- as a new element
 
   module _ (k : ℕ) where
-    paste_no_place : HasNoRoom def (Some k) x.found.node.now → IsPlan def e (Paste place (Some k) name) (RefusedBy NoPlace)
+    paste_no_place : HasNoRoom def (Some k) x.found.node.now → IsPlan def e (Paste place (Some k) name) (Err (stops.Refused NoPlace))
     paste_no_place none = inr (
       is_opened def e place x.found source.found,
       inr (
@@ -218,12 +217,12 @@ module _ (def : Definition) (e : Editor) (place : Where) (name : Name) (x : Sour
     )
 
     -- the node is no list
-    pub paste_no_list : (IsList x.found.node.now → ⊥) → IsPlan def e (Paste place (Some k) name) (RefusedBy NoPlace)
+    pub paste_no_list : (IsList x.found.node.now → ⊥) → IsPlan def e (Paste place (Some k) name) (Err (stops.Refused NoPlace))
     paste_no_list never = paste_no_place (inl never)
 
     module _ (list : Listed) (listed : IsListed def x.found.node.now list) where
       -- the list has fewer elements
-      pub paste_behind : list.elements < k → IsPlan def e (Paste place (Some k) name) (RefusedBy NoPlace)
+      pub paste_behind : list.elements < k → IsPlan def e (Paste place (Some k) name) (Err (stops.Refused NoPlace))
       paste_behind less = paste_no_place (inr (let same = listed.elements in omega (arith, same, less)))
 
       module _ (within : k ≤ list.elements) where
@@ -233,7 +232,7 @@ module _ (def : Definition) (e : Editor) (place : Where) (name : Name) (x : Sour
 
         -- the fragment is of another phylum than the elements
         pub paste_other_in : (x.saved.now.kind ≡ kinds.Phylum list.kind.now.element → ⊥)
-            → IsPlan def e (Paste place (Some k) name) (RefusedBy OtherPhylum)
+            → IsPlan def e (Paste place (Some k) name) (Err (stops.Refused OtherPhylum))
         paste_other_in never = inr (
           is_opened def e place x.found source.found,
           inr (

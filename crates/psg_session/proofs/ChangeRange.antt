@@ -1,5 +1,5 @@
 -- What replaced bytes are answered, before their tree is tested.
-use Rattle.std.proofs.Common.{◌≡◌, inl, inr, ℕ, ◌+◌, ◌-◌, ◌≤◌, List, [], Option, Some, None, refl, sym, ◌∙◌, subst, arith}
+use Rattle.std.proofs.Common.{◌≡◌, inl, inr, ℕ, ◌+◌, ◌-◌, ◌≤◌, List, [], Option, Some, None, refl, ◌∙◌, subst, arith, Err, Ok, Result}
 use Rattle.std.proofs.lemmas.Bool.{cases_lt}
 use Rattle.psg_grammar.specs.declared.types.Definition.{Definition}
 use Rattle.psg_grammar.specs.declared.limits.TheConstants.{MOST_DEPTH}
@@ -19,7 +19,8 @@ use Rattle.psg_textedit.specs.declared.change.Change.{Change}
 use Rattle.psg_textedit.specs.declared.change.TextFault.{TextFault}
 use Rattle.psg_textedit.specs.declared.change.TextFault.TheVariants as faults
 use Rattle.psg_session.specs.declared.changes.Proposal.{Proposal}
-use Rattle.psg_session.specs.declared.changes.Plan.TheVariants.{RefusedBy, Makes as Plans}
+use Rattle.psg_session.specs.declared.stop.Stop.{Stop}
+use Rattle.psg_session.specs.declared.stop.Stop.TheVariants as stops
 use Rattle.psg_session.specs.declared.edits.Edit.TheVariants.{Put}
 use Rattle.psg_session.specs.declared.editor.Editor.{Editor}
 use Rattle.psg_session.specs.declared.editor.OpenedTree.{OpenedTree}
@@ -32,7 +33,8 @@ use Rattle.psg_session.specs.Good.{IsGoodIn}
 use Rattle.psg_session.specs.Outcomes.{IsProposal, IsPlan, proposal_of, MaySpend, tree_tests}
 use Rattle.psg_session.specs.PlainState.{Opened, not_asked}
 use Rattle.psg_session.specs.PlainStep.{Gives, by_change, by_range, IsRefused, IsTaken, Makes, OfResult}
-use Rattle.psg_session.specs.RangeAnswers.{HasChange, HasNoChange, IsRangeRefusal}
+use Rattle.psg_session.specs.RangeAnswers.{HasChange, HasNoChange}
+use Rattle.psg_session.specs.Stops.{stop_of_text}
 use Rattle.psg_session.specs.Ranged.{NestsTooDeepWith, OfOpened, ReadsWith, replacing, text_with}
 use Rattle.psg_session.specs.Refusals.{Passes, Refuses}
 use Rattle.psg_session.specs.Sessions.{IsEditor, plain, state_of}
@@ -42,11 +44,11 @@ use Rattle.psg_session.proofs.EditLaws.{opened_version}
 use Rattle.psg_session.proofs.StepLaws.{is_opened_by, not_opened, opened_plain, some_once}
 use Rattle.psg_session.proofs.TypedLaws.{has_tree, no_fault, one_tree, read_tokens}
 
-plan_once : (a b : Proposal) → Plans b ≡ Plans a → a ≡ b
+plan_once : (a b : Proposal) → ◌≡◌ {A = Result Proposal Stop} (Ok b) (Ok a) → a ≡ b
 plan_once a b same = cc
 
-apart : (r : Refusal) (m : Proposal) → RefusedBy r ≡ Plans m → ⊥
-apart r m same = cc
+apart : (stop : Stop) (m : Proposal) → ◌≡◌ {A = Result Proposal Stop} (Err stop) (Ok m) → ⊥
+apart stop m same = cc
 
 module _ (def : Definition) (e : Editor) (start end : ℕ) (text : List ℕ) where
   abbrev here : Typing
@@ -54,22 +56,22 @@ module _ (def : Definition) (e : Editor) (start end : ℕ) (text : List ℕ) whe
 
   -- ---- nothing is opened
 
-  pub range_unopened : e.opened ≡ None → IsPlan def e (Range start end text) (RefusedBy NothingOpened)
+  pub range_unopened : e.opened ≡ None → IsPlan def e (Range start end text) (Err (stops.Refused NothingOpened))
   range_unopened none = inl (not_opened def e none, refl)
 
   pub range_unread : (from to : ℕ) → to ≡ from → HasTicked def (state_of e) (Range start end text) from to
   range_unread from to same = record { taken = 0; counted = omega (arith, same); within = inl refl }
 
   -- a plan that refuses spends nothing more
-  pub range_refused_spends : (r : Refusal) (from so_far : ℕ)
+  pub range_refused_spends : (stop : Stop) (from so_far : ℕ)
       → HasTicked def (state_of e) (Range start end text) from so_far
-      → MaySpend def e (Range start end text) from so_far (RefusedBy r)
-  range_refused_spends r from so_far ticked to (inl same) = record {
+      → MaySpend def e (Range start end text) from so_far (Err stop)
+  range_refused_spends stop from so_far ticked to (inl same) = record {
     taken = ticked.taken;
     counted = let h = ticked.counted in omega (arith, same, h);
     within = ticked.within;
   }
-  range_refused_spends r from so_far ticked to (inr (m, is_plan, held, opened, le)) = absurd (apart r m is_plan)
+  range_refused_spends stop from so_far ticked to (inr (m, is_plan, held, opened, le)) = absurd (apart stop m is_plan)
 
   module _ (held : OpenedTree) (is : e.opened ≡ Some held) where
     abbrev old : Opened
@@ -133,24 +135,24 @@ module _ (def : Definition) (e : Editor) (start end : ℕ) (text : List ℕ) whe
         → Makes def (state_of e) (Range start end text) tree []
     result_of tree n reads = by_range old tree n opened_is reads
 
-    pub range_refused : (fault : TextFault) (r : Refusal) → IsRangeRefusal fault r → HasNoChange def here old fault
-        → IsPlan def e (Range start end text) (RefusedBy r)
-    range_refused faults.NoPlace r is_r h = inr (is_opened, inl (has_opened Out h.reason, sym is_r))
-    range_refused faults.NoTokens r is_r h = inr (
+    pub range_refused : (fault : TextFault) → HasNoChange def here old fault
+        → IsPlan def e (Range start end text) (Err (stop_of_text fault))
+    range_refused faults.NoPlace h = inr (is_opened, inl (has_opened Out h.reason, refl))
+    range_refused faults.NoTokens h = inr (
       is_opened,
-      inr ((λ out. h.reason.0 (of_opened Out out)), inl (has_opened Faulty h.reason.1, sym is_r)),
+      inr ((λ out. h.reason.0 (of_opened Out out)), inl (has_opened Faulty h.reason.1, refl)),
     )
-    range_refused faults.NoTree r is_r h = inr (
+    range_refused faults.NoTree h = inr (
       is_opened,
       inr (
         (λ out. h.reason.0 (of_opened Out out)),
         inr (
           (λ fault. no_fault def (text_with def here old) h.reason.1.tokens h.reason.1.are (of_opened Faulty fault)),
-          inl (has_opened Treeless h.reason.1, sym is_r),
+          inl (has_opened Treeless h.reason.1, refl),
         ),
       ),
     )
-    range_refused faults.Deep r is_r h =
+    range_refused faults.Deep h =
         let d = h.reason.1 in
         let reads : ReadsWith def here old d.tree d.nesting = record { utf8 = h.utf8 h.reason.0; reads = d.reads } in
         inr (
@@ -168,13 +170,13 @@ module _ (def : Definition) (e : Editor) (start end : ℕ) (text : List ℕ) whe
                         inl (has_opened (NestsTooDeepWith def here)
                         (record { tree = d.tree; nesting = d.nesting; reads = reads; deep = nests }))
                   ],
-                  sym is_r,
+                  refl,
                 ),
               ),
             ),
           ),
         )
-    range_refused faults.Memory r is_r h = absurd is_r
+    range_refused faults.Memory h = tt
 
     -- ---- a tree that is put in
 
@@ -266,7 +268,7 @@ module _ (def : Definition) (e : Editor) (start end : ℕ) (text : List ℕ) whe
 
       pub range_spends : (made : Proposal) → made ≡ proposal_of Types (Put change.path change.tree) [] → (from so_far : ℕ)
           → ((found : Option Path) (n : ℕ) → IsReading def (tree_in held.note) here found n → so_far ≤ from + n)
-          → MaySpend def e (Range start end text) from so_far (Plans made)
+          → MaySpend def e (Range start end text) from so_far (Ok made)
       range_spends made is_made from so_far read to (inl same) =
           both_ticks from so_far to read (omega (arith, same))
       range_spends made is_made from so_far read to (inr (m, is_plan, other, opened, le)) =

@@ -1,5 +1,5 @@
 -- What a refinement is answered, before its tree is tested.
-use Rattle.std.proofs.Common.{arith, ◌≡◌, inl, inr, ℕ, List, None, Ok, Err, refl, sym, ◌∙◌, ap, subst, ◌≤◌, ◌+◌}
+use Rattle.std.proofs.Common.{arith, ◌≡◌, inl, inr, ℕ, List, None, Ok, Err, refl, sym, ◌∙◌, ap, subst}
 use Rattle.psg_terms.specs.Names.{Name}
 use Rattle.psg_grammar.specs.Insertion.{Leaf, fresh_operator, with_operator}
 use Rattle.psg_grammar.specs.declared.types.Kind.{Kind}
@@ -9,7 +9,8 @@ use Rattle.psg_grammar.specs.Paths.{replaced}
 use Rattle.psg_grammar.specs.Sound.{IsSound}
 use Rattle.psg_script.specs.declared.command.Where.{Where}
 use Rattle.psg_script.specs.declared.command.Command.TheVariants.{Refine}
-use Rattle.psg_session.specs.declared.changes.Plan.TheVariants.{RefusedBy}
+use Rattle.psg_session.specs.declared.stop.Stop.{Stop}
+use Rattle.psg_session.specs.declared.stop.Stop.TheVariants as stops
 use Rattle.psg_session.specs.declared.edits.Edit.TheVariants.{Put}
 use Rattle.psg_session.specs.declared.editor.Editor.{Editor}
 use Rattle.psg_session.specs.declared.finding.Target.{Target}
@@ -19,13 +20,11 @@ use Rattle.psg_session.specs.declared.refusal.Refusal.TheVariants.{NotHole}
 use Rattle.psg_session.specs.PlainState.{Opened, named_path}
 use Rattle.psg_session.specs.PlainStep.{AtNode, Gives, by_change, by_refine, IsOfPhylum, IsOperator, IsOther, IsWanted, Makes}
 use Rattle.psg_session.specs.Outcomes.{IsTarget, IsFreshAnswer, IsProposal, HasNoTarget, IsPlan, proposal_of}
-use Rattle.psg_session.specs.Ticks.{above, OfFresh}
-use Rattle.psg_grammar.specs.Work.{work_of, climb_of}
 use Rattle.psg_grammar.specs.WellFormed.{WellFormed}
 use Rattle.psg_session.specs.Sessions.{IsEditor, plain, state_of}
 use Rattle.psg_cache.specs.Annotated.{tree_in}
 use Rattle.psg_session.proofs.StepLaws.{at_node, has_node, is_opened, is_there, nowhere, opened_is, path_is, same_old}
-use Rattle.psg_session.proofs.ChangeLaws.{answer_formed, gives_none, is_other, may_put, not_other, one_operator, put_is, cost_here}
+use Rattle.psg_session.proofs.ChangeLaws.{answer_formed, gives_none, is_other, may_put, not_other, one_operator, put_is}
 use Rattle.psg_menu.specs.Menus.{HasQuietSlots}
 use Rattle.psg_session.specs.Leaves.{GivesLeaves}
 use Rattle.psg_session.proofs.LeafReads.{one_list}
@@ -35,7 +34,7 @@ IsNoHole old node = (p : ℕ) → node ≡ hole p → ⊥
 
 module _ (def : Definition) (e : Editor) (place : Where) (name : Name) (args : List ℕ) where
   -- nothing is opened, or there is no node
-  pub refine_nowhere : (r : Refusal) → HasNoTarget e place r → IsPlan def e (Refine place name args) (RefusedBy r)
+  pub refine_nowhere : (r : Refusal) → HasNoTarget e place r → IsPlan def e (Refine place name args) (Err (stops.Refused r))
   refine_nowhere r none = nowhere def e place r none
 
   -- the tree stays of the node's kind
@@ -48,7 +47,7 @@ module _ (def : Definition) (e : Editor) (place : Where) (name : Name) (args : L
   module _ (f : Target) (found : IsTarget e place f) where
     -- the node is no placeholder
     pub refine_no_hole : ((p : ℕ) → f.node.now ≡ hole p → ⊥)
-        → IsPlan def e (Refine place name args) (RefusedBy NotHole)
+        → IsPlan def e (Refine place name args) (Err (stops.Refused NotHole))
     refine_no_hole never = inr (
       is_opened def e place f found,
       inr (
@@ -65,16 +64,17 @@ module _ (def : Definition) (e : Editor) (place : Where) (name : Name) (args : L
       usual h = at_node def e place f found IsNoHole h p is
 
       -- there is no such operator with these leaves
-      pub refine_refused : (r : Refusal) → IsFreshAnswer def p name args (Err r)
-          → IsPlan def e (Refine place name args) (RefusedBy r)
-      refine_refused r (inl (e', never)) = inr (
+      pub refine_refused : (stop : Stop) → IsFreshAnswer def p name args (Err stop)
+          → IsPlan def e (Refine place name args) (Err stop)
+      refine_refused stops.Memory h = tt
+      refine_refused (stops.Refused r) (inl (e', never)) = inr (
         is_opened def e place f found,
         inr (
           is_there def e place f found,
           inr (usual, inl (never, sym e')),
         ),
       )
-      refine_refused r (inr (inl (e', o, named, never))) =
+      refine_refused (stops.Refused r) (inr (inl (e', o, named, never))) =
           inr (
             is_opened def e place f found,
             inr (
@@ -88,7 +88,7 @@ module _ (def : Definition) (e : Editor) (place : Where) (name : Name) (args : L
               ),
             ),
           )
-      refine_refused r (inr (inr (e', o, named, of, never))) =
+      refine_refused (stops.Refused r) (inr (inr (e', o, named, of, never))) =
           inr (
             is_opened def e place f found,
             inr (

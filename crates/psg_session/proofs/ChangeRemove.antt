@@ -1,12 +1,12 @@
 -- What it is answered that an element is taken away, before its tree is tested.
-use Rattle.std.proofs.Common.{◌≡◌, ◌⊎◌, inl, inr, ℕ, ◌<◌, ◌≤◌, length, Some, refl, sym, ◌∙◌, ap, subst, arith, ◌+◌}
+use Rattle.std.proofs.Common.{◌≡◌, ◌⊎◌, inl, inr, ℕ, ◌<◌, ◌≤◌, length, refl, ◌∙◌, ap, subst, arith, Err}
 use Rattle.psg_grammar.specs.declared.types.Definition.{Definition}
 use Rattle.psg_grammar.specs.Fragments.{Fragment, children_of}
 use Rattle.psg_grammar.specs.Paths.{change_at, IsList, removed}
 use Rattle.psg_script.specs.declared.command.Where.{Where}
 use Rattle.psg_script.specs.declared.command.Command.TheVariants.{Remove}
 use Rattle.psg_session.specs.declared.changes.Listed.{Listed}
-use Rattle.psg_session.specs.declared.changes.Plan.TheVariants.{RefusedBy}
+use Rattle.psg_session.specs.declared.stop.Stop.TheVariants as stops
 use Rattle.psg_session.specs.declared.edits.Edit.TheVariants.{Take}
 use Rattle.psg_session.specs.declared.editor.Editor.{Editor}
 use Rattle.psg_session.specs.declared.finding.Target.{Target}
@@ -16,8 +16,6 @@ use Rattle.psg_session.specs.declared.refusal.Refusal.TheVariants.{NoPlace}
 use Rattle.psg_session.specs.PlainState.{Opened, named_path}
 use Rattle.psg_session.specs.PlainStep.{AtNode, Gives, by_change, by_remove, Makes}
 use Rattle.psg_session.specs.Outcomes.{IsTarget, IsListed, IsProposal, HasNoTarget, IsPlan, proposal_of}
-use Rattle.psg_session.specs.Ticks.{above}
-use Rattle.psg_grammar.specs.Work.{climb_of}
 use Rattle.psg_session.proofs.ChangeLaws.{cost_here}
 use Rattle.psg_session.specs.Sessions.{plain, state_of}
 use Rattle.psg_cache.specs.Annotated.{tree_in}
@@ -30,11 +28,11 @@ HasNoElement k old node = (IsList node → ⊥) ⊎ (length (children_of node) �
 
 module _ (def : Definition) (e : Editor) (place : Where) (k : ℕ) where
   -- nothing is opened, or there is no node
-  pub remove_nowhere : (r : Refusal) → HasNoTarget e place r → IsPlan def e (Remove place k) (RefusedBy r)
+  pub remove_nowhere : (r : Refusal) → HasNoTarget e place r → IsPlan def e (Remove place k) (Err (stops.Refused r))
   remove_nowhere r none = nowhere def e place r none
 
   module _ (f : Target) (found : IsTarget e place f) where
-    remove_no_element : HasNoElement k (plain f.held.now) f.node.now → IsPlan def e (Remove place k) (RefusedBy NoPlace)
+    remove_no_element : HasNoElement k (plain f.held.now) f.node.now → IsPlan def e (Remove place k) (Err (stops.Refused NoPlace))
     remove_no_element none = inr (
       is_opened def e place f found,
       inr (
@@ -44,12 +42,12 @@ module _ (def : Definition) (e : Editor) (place : Where) (k : ℕ) where
     )
 
     -- the node is no list
-    pub remove_no_list : (IsList f.node.now → ⊥) → IsPlan def e (Remove place k) (RefusedBy NoPlace)
+    pub remove_no_list : (IsList f.node.now → ⊥) → IsPlan def e (Remove place k) (Err (stops.Refused NoPlace))
     remove_no_list never = remove_no_element (inl never)
 
     module _ (list : Listed) (listed : IsListed def f.node.now list) where
       -- the list has no such element
-      pub remove_behind : list.elements ≤ k → IsPlan def e (Remove place k) (RefusedBy NoPlace)
+      pub remove_behind : list.elements ≤ k → IsPlan def e (Remove place k) (Err (stops.Refused NoPlace))
       remove_behind less = remove_no_element (inr (let same = listed.elements in omega (arith, same, less)))
 
       removed_once : (other : Fragment) → Gives def (state_of e) (Remove place k) other

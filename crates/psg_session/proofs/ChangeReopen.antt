@@ -1,5 +1,5 @@
 -- What it is answered that a list is opened again, before its tree is tested.
-use Rattle.std.proofs.Common.{arith, ◌≡◌, ◌↔◌, inl, inr, Bool, true, false, true≢false, not, IsTrue, Some, refl, sym, ◌∙◌, ap, subst, ◌≤◌, ◌+◌}
+use Rattle.std.proofs.Common.{arith, ◌≡◌, ◌↔◌, inl, inr, Bool, true, false, true≢false, not, IsTrue, Some, refl, sym, ◌∙◌, ap, subst, Err}
 use Rattle.psg_grammar.specs.declared.types.Kind.TheVariants as kinds
 use Rattle.psg_grammar.specs.declared.types.ListKind.{ListKind}
 use Rattle.psg_grammar.specs.declared.types.Kind.{Kind}
@@ -10,7 +10,7 @@ use Rattle.psg_cache.proofs.FormedTrees.{ended_formed}
 use Rattle.psg_script.specs.declared.command.Where.{Where}
 use Rattle.psg_script.specs.declared.command.Command.TheVariants.{Reopen}
 use Rattle.psg_session.specs.declared.changes.Listed.{Listed}
-use Rattle.psg_session.specs.declared.changes.Plan.TheVariants.{RefusedBy}
+use Rattle.psg_session.specs.declared.stop.Stop.TheVariants as stops
 use Rattle.psg_session.specs.declared.edits.Edit.TheVariants.{Put}
 use Rattle.psg_session.specs.declared.editor.Editor.{Editor}
 use Rattle.psg_session.specs.declared.finding.Target.{Target}
@@ -20,15 +20,12 @@ use Rattle.psg_session.specs.declared.refusal.Refusal.TheVariants.{NoPlace}
 use Rattle.psg_session.specs.PlainState.{Opened, named_path}
 use Rattle.psg_session.specs.PlainStep.{Gives, by_change, by_reopen, Makes, MayReopen, end_of}
 use Rattle.psg_session.specs.Outcomes.{IsTarget, IsListed, IsProposal, HasNoTarget, IsPlan, proposal_of}
-use Rattle.psg_session.specs.Ticks.{above}
-use Rattle.psg_grammar.specs.Work.{work_of, climb_of}
 use Rattle.psg_grammar.specs.WellFormed.{WellFormed}
-use Rattle.psg_session.proofs.Ticking.{ended_work}
 use Rattle.psg_session.specs.Sessions.{IsEditor, plain, state_of}
 use Rattle.psg_cache.specs.Annotated.{tree_in}
 use Rattle.psg_session.proofs.Smaller.{ended_smaller}
 use Rattle.psg_session.proofs.StepLaws.{at_node, has_node, is_opened, is_there, nowhere, opened_is, path_is, same_old}
-use Rattle.psg_session.proofs.ChangeLaws.{end_is_list, kind_is, may_put, one_list_kind, put_is, cost_here}
+use Rattle.psg_session.proofs.ChangeLaws.{end_is_list, kind_is, may_put, one_list_kind, put_is}
 
 -- a list that may be unfinished stays of its kind
 pub reopen_keeps : (def : Definition) (node : Fragment) → MayReopen def node → (K : Kind) → WellFormed def node K
@@ -40,7 +37,7 @@ reopen_keeps def node (own, (l, of, at), may, ends) K formed =
 
 module _ (def : Definition) (e : Editor) (place : Where) where
   -- nothing is opened, or there is no node
-  pub reopen_nowhere : (r : Refusal) → HasNoTarget e place r → IsPlan def e (Reopen place) (RefusedBy r)
+  pub reopen_nowhere : (r : Refusal) → HasNoTarget e place r → IsPlan def e (Reopen place) (Err (stops.Refused r))
   reopen_nowhere r none = nowhere def e place r none
 
   abbrev MayNot : Opened → Fragment → Type 0
@@ -48,7 +45,7 @@ module _ (def : Definition) (e : Editor) (place : Where) where
 
   module _ (f : Target) (found : IsTarget e place f) where
     -- the node is no finished list that may be unfinished
-    pub reopen_refused : (MayReopen def f.node.now → ⊥) → IsPlan def e (Reopen place) (RefusedBy NoPlace)
+    pub reopen_refused : (MayReopen def f.node.now → ⊥) → IsPlan def e (Reopen place) (Err (stops.Refused NoPlace))
     reopen_refused never = inr (
       is_opened def e place f found,
       inr (

@@ -1,6 +1,6 @@
 -- A fragment that bytes keep is a tree of its kind.
-use Rattle.std.proofs.Common.{◌≡◌, inl, inr, ℕ, ◌+◌, ◌<◌, ◌==◌, Bool, List, [], length, drop, get_or, IsUtf8, true, true≢false, refl, sym, ◌∙◌, ap, subst, arith}
-use Rattle.std.specs.List.{after_first, position_or_len}
+use Rattle.std.proofs.Common.{◌≡◌, inl, inr, ℕ, ◌+◌, List, length, get_or, IsUtf8, true, true≢false, sym, ◌∙◌, subst, arith}
+use Rattle.std.specs.List.{position_or_len}
 use Rattle.std.proofs.lemmas.Bool.{cases_lt}
 use Rattle.std.proofs.lemmas.Bool.Decides.{eqb_tells}
 use Rattle.std.proofs.lemmas.List.{drop_all}

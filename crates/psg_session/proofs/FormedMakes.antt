@@ -1,5 +1,5 @@
 -- What a change of well-formed trees gives is well-formed, and its cursor leads to a node.
-use Rattle.std.proofs.Common.{◌≡◌, ◌⊎◌, inl, inr, ℕ, zero, suc, ◌<◌, Bool, true, false, List, [], ◌∷◌, ◌++◌, length, cond, find, slice_get, Option, Some, None, IsUtf8, bytes_eq, refl, sym, ◌∙◌, ap, subst, true≢false, append-nil, arith}
+use Rattle.std.proofs.Common.{◌≡◌, ◌⊎◌, inl, inr, ℕ, zero, suc, ◌<◌, Bool, true, false, List, [], ◌∷◌, ◌++◌, length, cond, slice_get, Option, Some, None, IsUtf8, bytes_eq, refl, sym, ◌∙◌, ap, subst, true≢false, append-nil, arith}
 use Rattle.std.specs.List.{AllByRecursion}
 use Rattle.std.specs.Option.{option_map, option_and_then}
 use Rattle.std.proofs.lemmas.Bool.{cases_Bool}
@@ -15,12 +15,12 @@ use Rattle.psg_grammar.specs.declared.types.Operator.{Operator}
 use Rattle.psg_grammar.specs.declared.types.Definition.{Definition}
 use Rattle.psg_grammar.specs.Fragments.{Fragment, hole, ending, cell, operator, with_child, with_name, with_number, with_text, anything, observed, children_of}
 use Rattle.psg_grammar.specs.Insertion.{Leaf, blank, fresh_operator, with_operator}
-use Rattle.psg_grammar.specs.Kinds.{HasKind, IsOfKind}
+use Rattle.psg_grammar.specs.Kinds.{IsOfKind}
 use Rattle.psg_grammar.specs.Paths.{Path, node_at, change_at, replaced, inserted, removed, ended, IsList}
 use Rattle.psg_grammar.specs.Sound.{IsSound}
 use Rattle.psg_grammar.specs.WellFormed.{Fits, IsPlain, WellFormed, fixed_words}
 use Rattle.psg_grammar.proofs.PathLaws.{change-below}
-use Rattle.psg_class.specs.Texts.{ReadsAs, tokens_of}
+use Rattle.psg_class.specs.Texts.{tokens_of}
 use Rattle.psg_class.proofs.FormedLaws.{yields_are_trees}
 use Rattle.psg_cache.proofs.FormedTrees.{changed_formed, ended_formed, formed_is_kind, inserted_formed, kind_once, node_formed, removed_formed}
 use Rattle.psg_script.specs.declared.command.Where.{Where}
@@ -30,7 +30,7 @@ use Rattle.psg_library.specs.declared.fragment.SavedFragment.{SavedFragment as S
 use Rattle.psg_session.specs.Formed.{IsFormedSaved, IsFormedState}
 use Rattle.psg_session.specs.Leaves.{GivesLeaves}
 use Rattle.psg_session.specs.PlainState.{State, Opened, named_path}
-use Rattle.psg_session.specs.PlainStep.{AtNode, HasNoRoom, IsDeclaringPhylum, IsListOf, IsNoNode, IsOfPhylum, IsOperator, IsOther, IsOtherSaved, IsWanted, MayReopen, MayTake, end_of}
+use Rattle.psg_session.specs.PlainStep.{AtNode, HasNoRoom, IsDeclaringPhylum, IsListOf, IsNoNode, IsOperator, IsOther, IsOtherSaved, IsWanted, MayReopen, end_of}
 use Rattle.psg_session.specs.Shelf.{saved_at}
 use Rattle.psg_session.specs.Typed.{ReadsFor}
 use Rattle.psg_session.proofs.ChangeLaws.{end_is_list, finished_formed, kind_is, kind_there, one_list_kind, one_operator}

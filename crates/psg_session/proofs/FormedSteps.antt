@@ -1,14 +1,11 @@
 -- A command keeps trees of their kinds.
-use Rattle.std.proofs.Common.{◌≡◌, inl, inr, ℕ, zero, suc, Bool, true, false, cond, List, [], ◌∷◌, ◌++◌, take, slice_get, Some, None, Option, bytes_eq, refl, sym, ◌∙◌, ap, subst}
+use Rattle.std.proofs.Common.{◌≡◌, List, [], ◌∷◌, take, Some, None, Option, refl, subst}
 use Rattle.std.specs.List.{AllByRecursion}
-use Rattle.std.proofs.lemmas.Bool.{cases_Bool}
-use Rattle.std.proofs.lemmas.Option.{none-some}
 use Rattle.psg_terms.proofs.Lists.{each_push, each_take}
 use Rattle.psg_terms.specs.Names.{Name}
 use Rattle.psg_grammar.specs.declared.types.Kind.{Kind}
-use Rattle.psg_grammar.specs.declared.types.Kind.TheVariants as kinds
 use Rattle.psg_grammar.specs.declared.types.Definition.{Definition}
-use Rattle.psg_grammar.specs.Fragments.{Fragment, hole, ending, cell, operator, with_child, with_name, with_number, with_text, anything, observed, children_of}
+use Rattle.psg_grammar.specs.Fragments.{Fragment}
 use Rattle.psg_grammar.specs.Insertion.{blank}
 use Rattle.psg_grammar.specs.Kinds.{IsOfKind}
 use Rattle.psg_grammar.specs.Paths.{Path, node_at}
@@ -17,17 +14,16 @@ use Rattle.psg_grammar.specs.WellFormed.{WellFormed}
 use Rattle.psg_cache.proofs.FormedTrees.{node_formed}
 use Rattle.psg_script.specs.declared.command.Command.{Command}
 use Rattle.psg_menu.specs.Menus.{HasQuietSlots}
-use Rattle.psg_library.specs.declared.fragment.SavedFragment.{SavedFragment as Saved}
 use Rattle.psg_session.specs.Formed.{HasText, IsFormedSaved, IsFormedState, IsPrintableState}
 use Rattle.psg_session.specs.Laws.{KeepsForm}
-use Rattle.psg_session.specs.PlainState.{State, Opened, Answer, most_versions, named_path, with_change}
+use Rattle.psg_session.specs.PlainState.{State, Opened, Answer, most_versions, named_path}
 use Rattle.psg_session.specs.PlainStep.{HasName, IsDeclaringPhylum, IsTaken, Makes, by_refine, by_insert, by_cut, by_remove, by_close, by_reopen, by_paste, by_paste_in, by_over, by_range, Steps, refuses, opens, changes, undoes, redoes, saves, keeps, fetches, shows, goes, screens, owns, relates, frees, offers, suggests}
 use Rattle.psg_session.specs.Replies.{Reply}
-use Rattle.psg_session.specs.Shelf.{others, saved_with}
+use Rattle.psg_session.specs.Shelf.{others}
 use Rattle.psg_session.proofs.AllOf.{all_others}
 use Rattle.psg_session.proofs.ChangeLaws.{kind_is}
 use Rattle.psg_session.proofs.FetchedTrees.{fetched_formed}
-use Rattle.psg_session.proofs.FormedMakes.{IsGiven, refined, put_in, cut_given, removed_given, closed_given, reopened_given, pasted, pasted_in, typed_given}
+use Rattle.psg_session.proofs.FormedMakes.{refined, put_in, cut_given, removed_given, closed_given, reopened_given, pasted, pasted_in, typed_given}
 use Rattle.psg_session.proofs.Opening.{has_kind}
 use Rattle.psg_session.proofs.PrintableTrees.{node_printable}
 use Rattle.psg_session.proofs.PrintableSteps.{changed_state, fetched_printable, new_printable, read_formed, redone_printable, saved_printable, undone_printable}

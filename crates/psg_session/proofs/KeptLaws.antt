@@ -1,10 +1,9 @@
 -- What a keep and a fetch do, from what the files answered.
 use Rattle.std.specs.Prelude.{codes}
-use Rattle.std.proofs.Common.{◌≡◌, inl, inr, ℕ, ◌<◌, ◌≤◌, ◌⊎◌, ◌+◌, List, [], ◌∷◌, ◌++◌, length, Option, Some, None, IfSome, Result, Ok, Err, IfErr, option_map, refl, sym, ◌∙◌, ap, ap₂, subst, arith}
+use Rattle.std.proofs.Common.{◌≡◌, inl, inr, ℕ, ◌<◌, ◌≤◌, ◌+◌, List, [], ◌∷◌, ◌++◌, length, Option, Some, None, IfSome, Ok, Err, option_map, refl, sym, ◌∙◌, ap, ap₂, subst, arith}
 use Rattle.std.specs.List.{AllByRecursion}
 use Rattle.std.specs.FinMap as map
 use Rattle.std.proofs.lemmas.Option.{none-some}
-use Rattle.std.specs.declared.alloc.AllocError.{AllocError}
 use Rattle.psg_terms.specs.Names.{Name}
 use Rattle.psg_world.specs.Files.{Entry, Held, reading, writing, bytes_of as held_bytes, front_of, OthersStand}
 use Rattle.psg_grammar.specs.declared.types.Definition.{Definition}
@@ -21,15 +20,16 @@ use Rattle.psg_script.specs.declared.command.Command.TheVariants.{New, Goto, Ref
 use Rattle.psg_session.specs.declared.editor.Editor.{Editor}
 use Rattle.psg_session.specs.declared.editor.Outcome.{Outcome}
 use Rattle.psg_session.specs.declared.editor.Outcome.TheVariants.{Stays}
-use Rattle.psg_session.specs.declared.refusal.Refusal.{Refusal}
-use Rattle.psg_session.specs.declared.refusal.Refusal.TheVariants.{KeptUnreadable, NoFragment, ShelfFault, ShelfFull, TooBig}
+use Rattle.psg_session.specs.declared.refusal.Refusal.TheVariants.{NoFragment, ShelfFault, ShelfFull, TooBig}
 use Rattle.psg_session.specs.declared.replies.Reply.{Reply as Given}
 use Rattle.psg_session.specs.declared.replies.Reply.TheVariants.{Refused}
+use Rattle.psg_session.specs.declared.stop.Stop.{Stop}
+use Rattle.psg_session.specs.declared.stop.Stop.TheVariants as stops
 use Rattle.psg_session.specs.Applied.{HasStopped}
 use Rattle.psg_session.specs.Exchanges.{Asked, fetching, gets, keeping, loses_fetch, loses_keep, most_kept_bytes, nobody, Outside, stores}
 use Rattle.psg_session.specs.Good.{IsGoodIn}
 use Rattle.psg_session.specs.Kept.{Asks, IsUnreadable, MayRead, OfBytes, OfFetched}
-use Rattle.psg_session.specs.Outcomes.{IsOutcome, shelved}
+use Rattle.psg_session.specs.Outcomes.{IfFound, IsOutcome, shelved}
 use Rattle.psg_session.specs.PlainState.{Answer, State, got, lost, not_asked, stored, with_saved}
 use Rattle.psg_session.specs.PlainStep.{fetches, keeps, refuses, Steps}
 use Rattle.psg_session.specs.Reached.{HasReached, IsFragmentAnswer, IsReaching}
@@ -37,15 +37,11 @@ use Rattle.psg_session.specs.Replies.{Reply, answered}
 use Rattle.psg_session.specs.Formed.{IsFormedSaved}
 use Rattle.psg_session.specs.Sessions.{IsEditor, state_of}
 use Rattle.psg_session.specs.Shelf.{others, saved_at, saved_with, IsFull}
+use Rattle.psg_session.specs.Stops.{stop_of_kept}
 use Rattle.psg_session.specs.Ticks.{HasTicked, HasTickedWith, MayTick}
 use Rattle.psg_session.specs.Views.{reply_of}
 use Rattle.psg_session.proofs.Shelving.{all_more, all_others}
 use Rattle.psg_session.proofs.StepLaws.{some_once}
-
--- what holds whatever the error is
-pub whatever_error : {X P : Type 0} (r : Result X AllocError) → P → IfErr r (λ _. P)
-whatever_error (Ok x) p = tt
-whatever_error (Err e) p = p
 
 pub same_outside : {h h' : Option Held} {e e' : List Entry} → h' ≡ h → e' ≡ e
     → ◌≡◌ {A = Outside} (record { held = h'; entries = e' }) (record { held = h; entries = e })
@@ -201,11 +197,21 @@ stopped_alone def s command before after from to same h = record {
 
 -- ---- a fetch
 
--- bytes that have a fault keep no fragment
-pub unread : (def : Definition) → IsSound def → IsClass def → (bytes : List ℕ) (fault : KeptFault)
-    → (fault ≡ faults.Memory → ⊥) → OrMemory (IsFirstFault def bytes) fault → (x : Saved) → IsKept def bytes x → ⊥
-unread def sound class bytes fault never (inl memory) x kept = never memory
-unread def sound class bytes fault never (inr first) x kept = no_fault_too def sound class bytes x fault kept first
+module _ (def : Definition) (sound : IsSound def) (class : IsClass def) (bytes : List ℕ) where
+  -- bytes that have a first fault keep no fragment
+  none_kept : (fault : KeptFault) → OrMemory (IsFirstFault def bytes) fault → (fault ≡ faults.Memory → ⊥)
+      → (x : Saved) → IsKept def bytes x → ⊥
+  none_kept fault (inl memory) never x kept = never memory
+  none_kept fault (inr first) never x kept = no_fault_too def sound class bytes x fault kept first
+
+  pub unread : (fault : KeptFault) → OrMemory (IsFirstFault def bytes) fault
+      → IsFragmentAnswer def bytes (Err (stop_of_kept fault))
+  unread faults.Head h = inl (refl, inr (none_kept faults.Head h (λ e. cc)))
+  unread faults.Phylum h = inl (refl, inr (none_kept faults.Phylum h (λ e. cc)))
+  unread faults.NoTokens h = inl (refl, inr (none_kept faults.NoTokens h (λ e. cc)))
+  unread faults.NoTree h = inl (refl, inr (none_kept faults.NoTree h (λ e. cc)))
+  unread faults.Deep h = inl (refl, inr (none_kept faults.Deep h (λ e. cc)))
+  unread faults.Memory h = tt
 
 got_not_lost : (bytes : List ℕ) → got bytes ≡ lost → ⊥
 got_not_lost bytes same = absurd (cc)
@@ -220,13 +226,14 @@ module _ (def : Definition) (e : Editor) (bytes : List ℕ) (file : Name) where
   readable small x kept (other, same, inr none) =
       none x (subst (λ b. IsKept def b x) (sym (same_got bytes other same)) kept)
 
-  pub fetch_refused : (r : Refusal) → IsFragmentAnswer def bytes (Err r)
-      → IsOutcome def e (got bytes) (Fetch file) (Stays (Refused r))
-  fetch_refused r (inl (is, why)) = record {
+  pub fetch_refused : (stop : Stop) → IsFragmentAnswer def bytes (Err stop)
+      → IfFound (Err stop) (IsOutcome def e (got bytes) (Fetch file))
+  fetch_refused stops.Memory h = tt
+  fetch_refused (stops.Refused r) (inl (is, why)) = record {
     steps = refuses (inr (got_not_lost bytes, inl ((bytes, refl, why), sym is)));
     fit = tt;
   }
-  fetch_refused r (inr (is, small, x, kept, big)) = record {
+  fetch_refused (stops.Refused r) (inr (is, small, x, kept, big)) = record {
     steps = refuses (inr (
       got_not_lost bytes,
       inr (readable small x kept, inl ((bytes, x, refl, kept, big), sym is)),
@@ -345,32 +352,6 @@ module _ (def : Definition) (s : State) where
   asks_reaching (Paste place k name) asked h = h
   asks_reaching (Keep name file) asked h = tt
   asks_reaching (Fetch file) asked h = tt
-
-pub not_reaching : (command : Command) → ((name file : Name) → command ≡ Keep name file → ⊥)
-    → ((file : Name) → command ≡ Fetch file → ⊥) → IsReaching command → ⊥
-not_reaching (Keep name file) a b h = a name file refl
-not_reaching (Fetch file) a b h = b file refl
-not_reaching (New name) a b h = h
-not_reaching (Goto place) a b h = h
-not_reaching (Refine place name args) a b h = h
-not_reaching (Insert place k name args) a b h = h
-not_reaching (Cut place) a b h = h
-not_reaching (Remove place k) a b h = h
-not_reaching (Close place) a b h = h
-not_reaching (Reopen place) a b h = h
-not_reaching (Over place text) a b h = h
-not_reaching (Range start end text) a b h = h
-not_reaching Show a b h = h
-not_reaching (Screen top left rows cols) a b h = h
-not_reaching (Relation place) a b h = h
-not_reaching (Own place) a b h = h
-not_reaching (Menu place k) a b h = h
-not_reaching (Names place k name) a b h = h
-not_reaching Free a b h = h
-not_reaching Undo a b h = h
-not_reaching Redo a b h = h
-not_reaching (Save name place) a b h = h
-not_reaching (Paste place k name) a b h = h
 
 -- a command that asks nothing took its step
 pub reached_alone : (def : Definition) (e : Editor) (command : Command) (before after : Outside) (from to : ℕ)

@@ -1,5 +1,5 @@
 -- What a text's tokens say of the leaves that it gives.
-use Rattle.std.proofs.Common.{◌≡◌, ℕ, ◌+◌, ◌<◌, Bool, true, false, true≢false, ◌&&◌, List, [], ◌∷◌, ◌++◌, length, get_or, take, map, Some, chars, encode_utf8_all, refl, sym, ◌∙◌, ap, ap₂, subst, suc, zero, arith}
+use Rattle.std.proofs.Common.{◌≡◌, ℕ, ◌+◌, ◌<◌, true, List, [], ◌∷◌, ◌++◌, length, get_or, take, map, Some, chars, encode_utf8_all, refl, sym, ◌∙◌, ap, ap₂, subst, suc, zero, arith}
 use Rattle.std.proofs.lemmas.Bool.{and_from}
 use Rattle.std.specs.List.{AllByRecursion}
 use Rattle.std.specs.Cmp.{first_so, second_so}

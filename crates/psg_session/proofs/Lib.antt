@@ -5,7 +5,6 @@ pub mod Ticking
 pub mod Carrying
 pub mod Settling
 pub mod Stepping
-pub mod Changing
 pub mod Opening
 pub mod Smaller
 pub mod Verdicts
@@ -60,6 +59,7 @@ pub mod NameOrder
 pub mod Offers
 pub mod NextSteps
 pub mod Printouts
+pub mod Stopping
 pub mod Heads
 pub mod Walked
 pub mod Selection

@@ -1,14 +1,12 @@
 -- A command has a step: where no test holds there is what it makes, or what it is answered.
-use Rattle.std.proofs.Common.{◌≡◌, ◌⊎◌, inl, inr, ℕ, ◌≤◌, List, [], ◌∷◌, ◌++◌, length, map, slice_get, Option, Some, None, IsUtf8, refl, sym, ◌∙◌, ap, ap₂, subst, arith}
+use Rattle.std.proofs.Common.{◌≡◌, inl, inr, ℕ, List, [], ◌∷◌, ◌++◌, length, map, slice_get, Option, Some, None, IsUtf8, refl, sym, ◌∙◌, ap, ap₂, arith}
 use Rattle.std.specs.Option.{option_map}
 use Rattle.std.specs.List.{AllByRecursion}
 use Rattle.std.specs.Prelude.{chars, codes}
 use Rattle.std.proofs.lemmas.Bool.{cases_lt}
-use Rattle.std.proofs.lemmas.Option.{none-some}
 use Rattle.psg_terms.proofs.Lists.{slice_get_some}
 use Rattle.psg_terms.specs.Names.{Name}
 use Rattle.psg_terms.specs.Relations.{IsIn, first, later}
-use Rattle.psg_terms.specs.Terms.{Term}
 use Rattle.psg_grammar.specs.declared.types.Kind.{Kind}
 use Rattle.psg_grammar.specs.declared.types.Kind.TheVariants as kinds
 use Rattle.psg_grammar.specs.declared.types.ListKind.{ListKind}
@@ -17,39 +15,35 @@ use Rattle.psg_grammar.specs.declared.types.Operator.{Operator}
 use Rattle.psg_grammar.specs.declared.types.Definition.{Definition}
 use Rattle.psg_grammar.specs.Fragments.{Fragment, hole, ending, cell, operator, with_child, with_name, with_number, with_text, anything, observed}
 use Rattle.psg_grammar.specs.Insertion.{blank}
-use Rattle.psg_grammar.specs.Kinds.{HasKind, IsOfKind, kind_name_of, op_name_of}
-use Rattle.psg_grammar.specs.Marks.{Chosen, nothing, taken as chosen, passed, good, wrong, Mark, IsMarkBy, IsCulpritBy, Located, nodes_from, path_of}
+use Rattle.psg_grammar.specs.Kinds.{HasKind, IsOfKind, op_name_of}
+use Rattle.psg_grammar.specs.Marks.{Chosen, nothing, taken as chosen, passed, good, wrong, Mark, IsMarkBy, IsCulpritBy, nodes_from, path_of}
 use Rattle.psg_grammar.specs.Paths.{Path, node_at, IsList}
 use Rattle.psg_grammar.specs.Regions.{names_of}
-use Rattle.psg_grammar.specs.Relations.{IsRelationOf, IsShownRelation}
 use Rattle.psg_grammar.specs.Sound.{IsSound}
 use Rattle.psg_grammar.specs.WellFormed.{fixed_words, WellFormed}
 use Rattle.psg_cache.proofs.FormedTrees.{formed_is_kind, node_formed}
 use Rattle.psg_class.specs.Class.{IsClass}
-use Rattle.psg_class.specs.Texts.{HasNoTokens, TextTokens}
 use Rattle.psg_lexis.specs.Tokens.{IsFixedWord}
-use Rattle.psg_lexis.specs.declared.token.Spanned.{Spanned}
 use Rattle.psg_menu.specs.Menus.{in_byte_order, IsChoosable, IsNameable, operators_of}
 use Rattle.psg_menu.proofs.MenuLaws.{op_there}
 use Rattle.psg_unparse.specs.Layout.{text_of}
-use Rattle.psg_unparse.specs.Spots.{Placed, placed_in}
+use Rattle.psg_unparse.specs.Spots.{Placed}
 use Rattle.psg_renaming.specs.Occurring.{occurring}
 use Rattle.psg_screen.specs.Window.{window_of}
 use Rattle.psg_unparse.specs.Listing.{IsListing}
 use Rattle.psg_unparse.proofs.Listed.{listing as formed_listing}
 use Rattle.psg_unparse.specs.Spans.{span_of}
 use Rattle.psg_library.specs.Keeping.{bytes_of}
-use Rattle.psg_library.specs.declared.fragment.SavedFragment.{SavedFragment as Saved}
 use Rattle.psg_script.specs.declared.command.Where.{Where}
 use Rattle.psg_script.specs.declared.command.Command.{Command}
 use Rattle.psg_script.specs.declared.command.Command.TheVariants.{New, Goto, Refine, Insert, Cut, Remove, Close, Reopen, Over, Range, Show, Screen, Relation, Own, Menu, Names, Free, Undo, Redo, Save, Paste, Keep, Fetch}
 use Rattle.psg_session.specs.Answers.{free_names, key_text, names_line, rows_lines}
 use Rattle.psg_session.specs.Applied.{IsAskedBy}
-use Rattle.psg_session.specs.Exchanges.{Asked, fetching, gets, IsAnswered, keeping, loses_fetch, loses_keep, most_kept_bytes, nobody, Outside, stores}
+use Rattle.psg_session.specs.Exchanges.{Asked, fetching, gets, IsAnswered, keeping, loses_fetch, loses_keep, most_kept_bytes, Outside, stores}
 use Rattle.psg_session.specs.Formed.{HasText, IsFormedState}
 use Rattle.psg_session.specs.Kept.{Asks}
-use Rattle.psg_session.specs.PlainState.{Answer, got, lost, named_path, not_asked, Opened, State, stored, with_change, with_cursor, with_new, with_saved, with_version}
-use Rattle.psg_session.specs.PlainStep.{by_close, by_cut, by_insert, by_over, by_paste, by_paste_in, by_range, by_refine, by_remove, by_reopen, changes, fetches, frees, goes, HasName, HasNoPlace, IsListOf, IsNoNode, IsTaken, IsWanted, keeps, Makes, offers, opens, owns, redoes, refuses, relates, saves, screens, shows, Steps, suggests, tests, undoes}
+use Rattle.psg_session.specs.PlainState.{Answer, got, lost, named_path, Opened, State, stored, with_change, with_cursor, with_new, with_saved, with_version}
+use Rattle.psg_session.specs.PlainStep.{by_close, by_cut, by_insert, by_over, by_paste, by_paste_in, by_range, by_refine, by_remove, by_reopen, changes, fetches, frees, goes, HasName, HasNoPlace, IsListOf, IsNoNode, IsTaken, IsWanted, keeps, Makes, offers, opens, owns, redoes, refuses, relates, saves, screens, shows, suggests, tests, undoes}
 use Rattle.psg_session.specs.Printing.{goto_line, IsWrittenAt, lines_in, view_of, what_is}
 use Rattle.psg_session.specs.Ranged.{replacing, text_with}
 use Rattle.psg_session.specs.Refusals.{done, Passes, Refuses, test, Tests}

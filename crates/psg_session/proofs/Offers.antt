@@ -1,9 +1,9 @@
 -- Which step the plain editor takes at a question about what may stand at a place.
-use Rattle.std.proofs.Common.{◌≡◌, ◌⊎◌, inl, inr, ℕ, zero, suc, ◌+◌, ◌*◌, ◌<◌, ◌≤◌, Bool, cond, List, [], ◌∷◌, map, length, sum_by, slice_get, Option, Some, None, refl, sym, ◌∙◌, ap, subst, arith}
+use Rattle.std.proofs.Common.{◌≡◌, inl, inr, ℕ, ◌+◌, ◌*◌, ◌<◌, ◌≤◌, cond, List, [], ◌∷◌, map, length, sum_by, slice_get, Option, Some, None, refl, sym, ◌∙◌, ap, subst, arith}
 use Rattle.std.specs.List.{count_by}
 use Rattle.psg_grammar.specs.Levels.{is_name_position}
 use Rattle.psg_eval.specs.Summaries.{are_names}
-use Rattle.std.specs.Prelude.{IfOk, MatchOption, Result, Ok, Err, Vec}
+use Rattle.std.specs.Prelude.{MatchOption, Ok, Err, Vec}
 use Rattle.std.specs.declared.alloc.Global.{Global}
 use Rattle.std.proofs.lemmas.Option.{none-some, slice_get_within}
 use Rattle.psg_eval.proofs.StartLaws.{names_in_count}
@@ -16,11 +16,11 @@ use Rattle.psg_grammar.specs.declared.types.Item.TheVariants as items
 use Rattle.psg_grammar.specs.declared.types.ListKind.{ListKind}
 use Rattle.psg_grammar.specs.declared.types.Operator.{Operator}
 use Rattle.psg_grammar.specs.declared.types.Definition.{Definition}
-use Rattle.psg_grammar.specs.Fragments.{Fragment, hole, children_of}
+use Rattle.psg_grammar.specs.Fragments.{Fragment, hole}
 use Rattle.psg_grammar.specs.Kinds.{IsOfKind, op_name_of}
 use Rattle.psg_grammar.specs.Lookups.{operator_at}
 use Rattle.psg_grammar.specs.Open.{IsOpen}
-use Rattle.psg_grammar.specs.Paths.{Path, node_at, IsList}
+use Rattle.psg_grammar.specs.Paths.{Path, node_at}
 use Rattle.psg_grammar.specs.Sound.{IsSound}
 use Rattle.psg_grammar.specs.Work.{climb_of}
 use Rattle.psg_grammar.proofs.SoundParts.{elements_in}
@@ -32,10 +32,10 @@ use Rattle.psg_cache.proofs.FormedTrees.{node_formed}
 use Rattle.psg_eval.specs.declared.frame.Frame.{Frame}
 use Rattle.psg_eval.specs.declared.question.FocusFault.{FocusFault}
 use Rattle.psg_eval.specs.declared.question.FocusFault.TheVariants as questions
-use Rattle.psg_eval.specs.Frames.{CanClimb, StandAt}
+use Rattle.psg_eval.specs.Frames.{CanClimb}
 use Rattle.psg_renaming.specs.Occurring.{occurring}
 use Rattle.psg_menu.specs.Answers.{HasOneName, IsMenuAnswer, IsNamesAnswer, menu_ticks, names_ticks, slots_of}
-use Rattle.psg_menu.specs.Menus.{AreUsed, HasWideNaming, HasWideTrial, IsMenu, IsNameMenu, in_byte_order, operators_of}
+use Rattle.psg_menu.specs.Menus.{HasWideNaming, HasWideTrial, IsMenu, IsNameMenu, in_byte_order, operators_of}
 use Rattle.psg_script.specs.declared.command.Where.{Where}
 use Rattle.psg_script.specs.declared.command.Command.TheVariants.{Menu, Names}
 use Rattle.psg_session.specs.declared.changes.Listed.{Listed}
@@ -44,18 +44,21 @@ use Rattle.psg_session.specs.declared.finding.Target.{Target}
 use Rattle.psg_session.specs.declared.menus.Site.{Site}
 use Rattle.psg_session.specs.declared.refusal.Refusal.{Refusal}
 use Rattle.psg_session.specs.declared.refusal.Refusal.TheVariants.{Unknown, OtherPhylum, BadArguments, TooWide}
+use Rattle.psg_session.specs.declared.editor.Outcome.TheVariants.{Stays}
 use Rattle.psg_session.specs.declared.replies.Reply.{Reply as Given}
+use Rattle.psg_session.specs.declared.replies.Reply.TheVariants.{Refused}
 use Rattle.psg_session.specs.Answers.{names_line}
-use Rattle.psg_session.specs.Offering.{IsNamingAnswer, IsOffered, IsSite, IsSuggested, climb_before}
-use Rattle.psg_session.specs.Outcomes.{IsTarget, IsListed, HasNoTarget}
-use Rattle.psg_session.specs.PlainState.{Opened, named_path}
-use Rattle.psg_session.specs.PlainStep.{AtNode, HasNoPlace, HasNotOneName, IsListOf, IsMenuTooWide, IsNamesTooWide, IsOfPhylum, IsOperator, IsOther, IsWanted, refuses, offers, suggests}
+use Rattle.psg_session.specs.Offering.{IsNamingAnswer, IsSite, climb_before}
+use Rattle.psg_session.specs.Outcomes.{IfFound, IsOutcome, IsTarget, IsListed, HasNoTarget}
+use Rattle.psg_session.specs.PlainState.{Opened, named_path, not_asked}
+use Rattle.psg_session.specs.PlainStep.{AtNode, HasNoPlace, HasNotOneName, IsListOf, IsOfPhylum, IsOperator, IsWanted, refuses, offers, suggests}
 use Rattle.psg_session.specs.Refusals.{place_test}
 use Rattle.psg_session.specs.Replies.{answered, refused}
 use Rattle.psg_session.specs.Sessions.{IsEditor, IsVersion, plain, state_of}
+use Rattle.psg_session.specs.Stops.{stop_of_focus}
 use Rattle.psg_session.specs.Ticks.{HasTicked, above_trial, menu_work, names_work}
 use Rattle.psg_session.specs.Views.{reply_of}
-use Rattle.psg_session.proofs.Asking.{Answers}
+use Rattle.psg_session.proofs.Asking.{Answers, stayed}
 use Rattle.psg_session.proofs.ChangeLaws.{is_other, not_other, one_list_kind, one_operator}
 use Rattle.psg_session.proofs.EditLaws.{opened_version}
 use Rattle.psg_session.proofs.FormedTrials.{operator_in}
@@ -196,14 +199,19 @@ module _ (def : Definition) (e : Editor) (place : Where) (k : Option ℕ) where
               narrow (subst (λ q. HasWideTrial def tree q k site.phylum) (sym found.path)
               (subst (HasWideTrial def tree (named_path place (state_of e).cursor) k) (only p want) wide))
 
-      pub menu_answered : (ops : Result (Vec ℕ Global) FocusFault) (reply : Given)
-          → IsMenuAnswer def (IsOpen def) tree f.path.now k site.phylum ops → IsOffered def ops reply
-          → Answers def e (Menu place k) (reply_of reply)
-      menu_answered (Ok ops) reply (menu, narrow) (names, named, told) =
-          subst (Answers def e (Menu place k)) (sym told)
-          (menu_told ops.items names menu (narrow (opened_version def e f.held.now editor found.held).noted.within.narrow) named)
-      menu_answered (Err questions.Wide) reply wide told = subst (Answers def e (Menu place k)) (sym told) (menu_wide wide)
-      menu_answered (Err questions.Memory) reply h told = absurd told
+      pub menu_answered : (ops : Vec ℕ Global) → IsMenuAnswer def (IsOpen def) tree f.path.now k site.phylum (Ok ops)
+          → (names : List Name) → map (op_name_of def) ops.items ≡ map Some names
+          → (reply : Given) → reply_of reply ≡ answered (names_line names ∷ [])
+          → IsOutcome def e not_asked (Menu place k) (Stays reply)
+      menu_answered ops (menu, narrow) names named reply told =
+          stayed def e (Menu place k) reply (subst (Answers def e (Menu place k)) (sym told)
+          (menu_told ops.items names menu (narrow (opened_version def e f.held.now editor found.held).noted.within.narrow) named))
+
+      -- a trial is too wide
+      pub menu_stopped : (fault : FocusFault) → IsMenuAnswer def (IsOpen def) tree f.path.now k site.phylum (Err fault)
+          → IfFound (Err (stop_of_focus fault)) (IsOutcome def e not_asked (Menu place k))
+      menu_stopped questions.Wide wide = stayed def e (Menu place k) (Refused TooWide) (menu_wide wide)
+      menu_stopped questions.Memory h = tt
 
       pub menu_ticked : (from to : ℕ) → to ≤ from + menu_ticks def (operators_of def site.phylum) site.around.items
           → HasTicked def (state_of e) (Menu place k) from to
@@ -336,18 +344,23 @@ module _ (def : Definition) (e : Editor) (place : Where) (k : Option ℕ) where
                   narrow (subst (λ q. HasWideNaming def tree q k o names_of_tree) (sym found.path)
                   (subst (λ y. HasWideNaming def tree (named_path place (state_of e).cursor) k y names_of_tree) same wide))
 
-          pub names_answered : (candidates : List Name) → candidates ≡ names_of_tree → (kept : Result (Vec Name Global) FocusFault) (reply : Given)
-              → IsNamesAnswer def (IsOpen def) tree f.path.now k o candidates kept → IsSuggested kept reply
-              → Answers def e (Names place k name) (reply_of reply)
-          names_answered candidates are kept reply h told =
-              go kept (subst (λ c. IsNamesAnswer def (IsOpen def) tree f.path.now k o c kept) are h) told where
-                go : (r : Result (Vec Name Global) FocusFault) → IsNamesAnswer def (IsOpen def) tree f.path.now k o names_of_tree r → IsSuggested r reply
-                    → Answers def e (Names place k name) (reply_of reply)
-                go (Ok names) (menu, narrow) written =
-                    subst (Answers def e (Names place k name)) (sym written)
-                    (names_told names.items menu (narrow (opened_version def e f.held.now editor found.held).noted.within.narrow))
-                go (Err questions.Wide) wide written = subst (Answers def e (Names place k name)) (sym written) (names_wide wide)
-                go (Err questions.Memory) memory written = absurd written
+          pub names_answered : (candidates : List Name) → candidates ≡ names_of_tree → (kept : Vec Name Global)
+              → IsNamesAnswer def (IsOpen def) tree f.path.now k o candidates (Ok kept)
+              → (reply : Given) → reply_of reply ≡ answered (names_line kept.items ∷ [])
+              → IsOutcome def e not_asked (Names place k name) (Stays reply)
+          names_answered candidates are kept h reply told =
+              let (menu, narrow) = subst (λ c. IsNamesAnswer def (IsOpen def) tree f.path.now k o c (Ok kept)) are h in
+              stayed def e (Names place k name) reply (subst (Answers def e (Names place k name)) (sym told)
+              (names_told kept.items menu (narrow (opened_version def e f.held.now editor found.held).noted.within.narrow)))
+
+          -- a trial is too wide
+          pub names_stopped : (candidates : List Name) → candidates ≡ names_of_tree → (fault : FocusFault)
+              → IsNamesAnswer def (IsOpen def) tree f.path.now k o candidates (Err fault)
+              → IfFound (Err (stop_of_focus fault)) (IsOutcome def e not_asked (Names place k name))
+          names_stopped candidates are questions.Wide h =
+              stayed def e (Names place k name) (Refused TooWide)
+              (names_wide (subst (λ c. IsNamesAnswer def (IsOpen def) tree f.path.now k o c (Err questions.Wide)) are h))
+          names_stopped candidates are questions.Memory h = tt
 
           pub names_ticked : (candidates : List Name) → candidates ≡ names_of_tree → (from to : ℕ)
               → to ≤ from + names_ticks def o candidates site.around.items → HasTicked def (state_of e) (Names place k name) from to
@@ -385,11 +398,10 @@ pub no_site : (def : Definition) (f : Fragment) (path : Path) (k : Option ℕ) (
 no_site def f path k node o e h = subst (λ x. MatchOption x (HasNoPlace def k node) (IsSite def f path k node)) e h
 
 -- the numbers of a menu are those of operators
-pub in_range : (def : Definition) (IsGood : Fragment → Type 0) (f : Fragment) (path : Path) (k : Option ℕ) (p : ℕ) (ops : Result (Vec ℕ Global) FocusFault)
-    → IsMenuAnswer def IsGood f path k p ops → IfOk ops (λ v. (o : ℕ) → IsIn o v.items → o < length def.operators)
-in_range def IsGood f path k p (Ok v) (menu, narrow) =
+pub in_range : (def : Definition) (IsGood : Fragment → Type 0) (f : Fragment) (path : Path) (k : Option ℕ) (p : ℕ) (ops : Vec ℕ Global)
+    → IsMenuAnswer def IsGood f path k p (Ok ops) → (o : ℕ) → IsIn o ops.items → o < length def.operators
+in_range def IsGood f path k p ops (menu, narrow) =
     λ o i. let (op, found, is) = operator_in def p o (chosen_in menu o i) in slice_get_within def.operators o op found
-in_range def IsGood f path k p (Err fault) h = tt
 
 -- ---- operators with one name
 

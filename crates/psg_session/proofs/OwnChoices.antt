@@ -11,7 +11,6 @@ use Rattle.psg_terms.specs.Relations.{IsIn, first, later, IsRelation}
 use Rattle.psg_grammar.specs.Keys.{Key, in_order}
 use Rattle.psg_grammar.specs.Sound.{AreColumns, IsOperator, IsRow}
 use Rattle.psg_grammar.specs.declared.types.Definition.{Definition}
-use Rattle.psg_grammar.specs.declared.types.Item.TheVariants as items
 use Rattle.psg_grammar.specs.declared.types.Kind.TheVariants as kinds
 use Rattle.psg_grammar.specs.declared.types.Operator.{Operator}
 use Rattle.psg_grammar.specs.declared.types.Row.{Row}

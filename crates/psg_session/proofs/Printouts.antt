@@ -1,10 +1,8 @@
 -- The printed text that a session keeps of its opened fragment.
-use Rattle.std.proofs.Common.{◌≡◌, inl, inr, ℕ, List, Option, Some, None, option_map, refl, sym, ◌∙◌, ap, subst}
+use Rattle.std.proofs.Common.{◌≡◌, inl, inr, ℕ, List, Option, Some, None, Result, Ok, option_map, refl, sym, ◌∙◌, ap, subst}
 use Rattle.std.proofs.lemmas.Option.{none-some}
 use Rattle.psg_grammar.specs.declared.types.Definition.{Definition}
 use Rattle.psg_cache.specs.Annotated.{tree_in}
-use Rattle.psg_script.specs.declared.command.Command.{Command}
-use Rattle.psg_script.specs.declared.command.Command.TheVariants.{New, Goto, Refine, Insert, Cut, Remove, Close, Reopen, Over, Range, Show, Screen, Relation, Own, Menu, Names, Free, Undo, Redo, Save, Paste, Keep, Fetch}
 use Rattle.psg_unparse.specs.Spans.{printed_of}
 use Rattle.psg_unparse.specs.declared.spans.Printed.{Printed}
 use Rattle.psg_session.specs.declared.editor.Editor.{Editor}
@@ -12,10 +10,9 @@ use Rattle.psg_session.specs.declared.editor.OpenedTree.{OpenedTree}
 use Rattle.psg_session.specs.declared.editor.Outcome.{Outcome}
 use Rattle.psg_cache.specs.Annotated.{Annotated}
 use Rattle.psg_session.specs.declared.changes.Proposal.{Proposal}
-use Rattle.psg_session.specs.declared.changes.Plan.{Plan}
-use Rattle.psg_session.specs.declared.changes.Plan.TheVariants.{Makes}
 use Rattle.psg_session.specs.declared.editor.Outcome.TheVariants.{Changes}
 use Rattle.psg_session.specs.declared.replies.Mark.{Mark}
+use Rattle.psg_session.specs.declared.stop.Stop.{Stop}
 use Rattle.psg_grammar.specs.Fragments.{Fragment}
 use Rattle.std.specs.Prelude.{MatchOption}
 use Rattle.psg_unparse.specs.Splicing.{IsSpliceable, IsSplicing}
@@ -24,36 +21,8 @@ use Rattle.psg_session.specs.declared.edits.Edit.TheVariants.{Put}
 use Rattle.psg_session.specs.Edits.{edited}
 use Rattle.psg_session.specs.Outcomes.{after, changed, IsFit}
 use Rattle.psg_session.specs.PlainState.{Opened, State}
-use Rattle.psg_session.specs.Printouts.{IsKeptText, IsNextText, IsPlannedText, unknown, known, IsPrinted, IsPrinting}
+use Rattle.psg_session.specs.Printouts.{IsKeptText, IsNextText, IsPlannedText, unknown, known, IsPrinted}
 use Rattle.psg_session.specs.Sessions.{opened_of, state_of}
-
--- none of the four commands
-pub not_printing : (command : Command) → ((place : _) → command ≡ Goto place → ⊥)
-    → ((start end : _) (text : _) → command ≡ Range start end text → ⊥) → (command ≡ Show → ⊥)
-    → ((top left rows cols : _) → command ≡ Screen top left rows cols → ⊥) → IsPrinting command → ⊥
-not_printing (New name) a b c d h = h
-not_printing (Goto place) a b c d h = a place refl
-not_printing (Refine place name args) a b c d h = h
-not_printing (Insert place k name args) a b c d h = h
-not_printing (Cut place) a b c d h = h
-not_printing (Remove place k) a b c d h = h
-not_printing (Close place) a b c d h = h
-not_printing (Reopen place) a b c d h = h
-not_printing (Over place text) a b c d h = h
-not_printing (Range start end text) a b c d h = b start end text refl
-not_printing Show a b c d h = c refl
-not_printing (Screen top left rows cols) a b c d h = d top left rows cols refl
-not_printing (Relation place) a b c d h = h
-not_printing (Own place) a b c d h = h
-not_printing (Menu place k) a b c d h = h
-not_printing (Names place k name) a b c d h = h
-not_printing Free a b c d h = h
-not_printing Undo a b c d h = h
-not_printing Redo a b c d h = h
-not_printing (Save name place) a b c d h = h
-not_printing (Paste place k name) a b c d h = h
-not_printing (Keep name file) a b c d h = h
-not_printing (Fetch file) a b c d h = h
 
 same_text : (a b : Printed) → Some a ≡ Some b → a ≡ b
 same_text a b same = cc
@@ -87,15 +56,15 @@ module _ (def : Definition) where
       → IsKeptText def (after old outcome).opened q → IsKeptText def (opened_of new.opened) q
   kept_settled old new outcome q state kept = subst (λ (s : State). IsKeptText def s.opened q) (sym state) kept
 
-pub one_made : (p : Plan) (a b : Proposal) → p ≡ Makes a → p ≡ Makes b → a ≡ b
-one_made p a b e f = let z : Makes a ≡ Makes b = sym e ∙ f in cc
+pub one_made : (p : Result Proposal Stop) (a b : Proposal) → p ≡ Ok a → p ≡ Ok b → a ≡ b
+one_made p a b e f = let z : ◌≡◌ {A = Result Proposal Stop} (Ok a) (Ok b) = sym e ∙ f in cc
 
-pub nothing_planned : (def : Definition) (e : Editor) (plan : Plan) → IsPlannedText def e plan None
+pub nothing_planned : (def : Definition) (e : Editor) (plan : Result Proposal Stop) → IsPlannedText def e plan None
 nothing_planned def e plan = unknown
 
 -- what is spliced is the text of the planned tree
-pub planned_by : (def : Definition) (e : Editor) (plan : Plan) (held : OpenedTree) (made : Proposal) (place : List ℕ)
-    (new : Fragment) (q : Option Printed) → e.opened ≡ Some held → plan ≡ Makes made → made.edit ≡ Put place new
+pub planned_by : (def : Definition) (e : Editor) (plan : Result Proposal Stop) (held : OpenedTree) (made : Proposal) (place : List ℕ)
+    (new : Fragment) (q : Option Printed) → e.opened ≡ Some held → plan ≡ Ok made → made.edit ≡ Put place new
     → MatchOption q (IsSpliceable def (tree_in held.note) place new → ⊥) (IsSplicing def (tree_in held.note) place new)
     → IsPlannedText def e plan q
 planned_by def e plan held made place new None opened makes put h = unknown
@@ -110,9 +79,9 @@ pub no_text : (def : Definition) (e : Editor) (outcome : Outcome) (q : Option Pr
 no_text def e outcome q none = inl none
 
 -- the text of the new version
-pub next_text : (def : Definition) (e : Editor) (plan : Plan) (note : Annotated) (cursor : List ℕ) (mark : Mark)
+pub next_text : (def : Definition) (e : Editor) (plan : Result Proposal Stop) (note : Annotated) (cursor : List ℕ) (mark : Mark)
     (q : Option Printed) → IsPlannedText def e plan q → IsFit def e.opened (Changes note cursor mark)
-    → ((held : OpenedTree) (made : Proposal) → e.opened ≡ Some held → plan ≡ Makes made
+    → ((held : OpenedTree) (made : Proposal) → e.opened ≡ Some held → plan ≡ Ok made
     → tree_in note ≡ edited made.edit (tree_in held.note))
     → IsNextText def e (Changes note cursor mark) q
 next_text def e plan note cursor mark None unknown fit version = inl refl

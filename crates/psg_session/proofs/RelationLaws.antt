@@ -1,6 +1,6 @@
 -- Which step the plain editor takes at a question about a node's values.
-use Rattle.std.proofs.Common.{◌≡◌, inl, inr, ℕ, ◌+◌, ◌≤◌, ◌<◌, List, [], ◌∷◌, map, take, zero, suc, length, Option, Some, None, refl, sym, ◌∙◌, ap, ap₂, subst, arith}
-use Rattle.std.specs.Prelude.{string_bytes, IfOk, MatchOption, Result, Ok, Err, Vec}
+use Rattle.std.proofs.Common.{◌≡◌, inl, inr, ℕ, ◌+◌, ◌≤◌, ◌<◌, List, [], ◌∷◌, map, take, zero, suc, length, Option, Some, None, refl, sym, ◌∙◌, ap, subst, arith}
+use Rattle.std.specs.Prelude.{MatchOption, Result, Ok, Err, Vec}
 use Rattle.std.specs.declared.alloc.Global.{Global}
 use Rattle.psg_terms.specs.Terms.{Term}
 use Rattle.psg_terms.specs.Relations.{IsIn, first, later}
@@ -15,7 +15,6 @@ use Rattle.psg_grammar.specs.Work.{climb_of}
 use Rattle.psg_cache.specs.Annotated.{Annotated, tree_in}
 use Rattle.psg_cache.specs.Edits.{IsNoSummaryAt, IsSummaryAt}
 use Rattle.psg_cache.specs.NoteFrames.{AreFramesAt}
-use Rattle.psg_cache.specs.Notes.{IsFormed}
 use Rattle.psg_cache.proofs.Evaluations.{one_kind}
 use Rattle.psg_cache.proofs.FrameParts.{quiet}
 use Rattle.psg_cache.proofs.RealTrees.{real}
@@ -32,17 +31,16 @@ use Rattle.psg_session.specs.declared.editor.Editor.{Editor}
 use Rattle.psg_session.specs.declared.finding.Target.{Target}
 use Rattle.psg_session.specs.declared.refusal.Refusal.{Refusal}
 use Rattle.psg_session.specs.declared.refusal.Refusal.TheVariants.{TooWide}
-use Rattle.psg_session.specs.declared.replies.Reply.{Reply as Given}
+use Rattle.psg_session.specs.declared.replies.Reply.TheVariants.{Refused}
 use Rattle.psg_session.specs.Answers.{row_line, rows_lines}
-use Rattle.psg_session.specs.Outcomes.{IsTarget, HasNoTarget}
-use Rattle.psg_session.specs.PlainState.{Opened, named_path}
+use Rattle.psg_session.specs.Outcomes.{IfFound, IsOutcome, IsTarget, HasNoTarget}
+use Rattle.psg_session.specs.PlainState.{Opened, named_path, not_asked}
 use Rattle.psg_session.specs.PlainStep.{refuses, relates}
-use Rattle.psg_session.specs.Relating.{IsRelated}
 use Rattle.psg_session.specs.Replies.{answered, refused}
 use Rattle.psg_session.specs.Sessions.{IsEditor, plain, state_of}
+use Rattle.psg_session.specs.Stops.{stop_of_focus}
 use Rattle.psg_session.specs.Ticks.{HasTicked}
-use Rattle.psg_session.specs.Views.{reply_of}
-use Rattle.psg_session.proofs.Asking.{Answers, node_formed}
+use Rattle.psg_session.proofs.Asking.{Answers, node_formed, stayed}
 use Rattle.psg_session.proofs.EditLaws.{opened_version}
 use Rattle.psg_session.proofs.StepLaws.{at_node, has_node, is_opened, is_there, nowhere, opened_is, some_once}
 
@@ -78,10 +76,9 @@ each_sorted sig (u ∷ ts) sort all t first = (sort, (all (u ∷ []) first).0)
 each_sorted sig (u ∷ ts) sort all t (later i) = each_sorted sig ts sort (λ row h. all row (later h)) t i
 each_sorted sig [] sort all t i = elim i [ ]
 
-pub shown_sorted : (sig : Signature) (shown : Result (Vec Term Global) FocusFault) → IfOk shown (λ terms. (sort : ℕ) × AllHaveSorts sig (rows_of terms.items) (sort ∷ []))
-    → IfOk shown (λ terms. (t : Term) → IsIn t terms.items → (s : ℕ) × HasSort sig t s)
-shown_sorted sig (Ok terms) (sort, all) = each_sorted sig terms.items sort all
-shown_sorted sig (Err fault) h = tt
+pub shown_sorted : (sig : Signature) (terms : List Term) → ((sort : ℕ) × AllHaveSorts sig (rows_of terms) (sort ∷ []))
+    → (t : Term) → IsIn t terms → (s : ℕ) × HasSort sig t s
+shown_sorted sig terms (sort, all) = each_sorted sig terms sort all
 
 -- ---- steps
 
@@ -115,12 +112,18 @@ module _ (def : Definition) (e : Editor) (place : Where) where
         )
         (opened_is def e place f found) (subst (λ p. IsShownRelation def (tree_in f.held.now.note) p rows) found.path shown)
 
-    pub related : (shown : Result (Vec Term Global) FocusFault) (reply : Given) → IsShown def f.path.now (tree_in f.held.now.note) shown → IsRelated def.signature shown reply
-        → Answers def e (Relation place) (reply_of reply)
-    related (Ok terms) reply is told =
-        subst (Answers def e (Relation place)) (sym told) (relation_told (rows_of terms.items) is.0 is.1)
-    related (Err questions.Wide) reply is told = subst (Answers def e (Relation place)) (sym told) (relation_wide is)
-    related (Err questions.Memory) reply is told = absurd told
+    -- the values that were found are told
+    pub related : (terms : Vec Term Global) → IsShown def f.path.now (tree_in f.held.now.note) (Ok terms)
+        → (lines : List (List ℕ)) → lines ≡ rows_lines def.signature [] (rows_of terms.items)
+        → Answers def e (Relation place) (answered lines)
+    related terms is lines told =
+        subst (λ ls. Answers def e (Relation place) (answered ls)) (sym told) (relation_told (rows_of terms.items) is.0 is.1)
+
+    -- a relation is too wide
+    pub unrelated : (fault : FocusFault) → IsShown def f.path.now (tree_in f.held.now.note) (Err fault)
+        → IfFound (Err (stop_of_focus fault)) (IsOutcome def e not_asked (Relation place))
+    unrelated questions.Wide wide = stayed def e (Relation place) (Refused TooWide) (relation_wide wide)
+    unrelated questions.Memory h = tt
 
     -- ---- what the question is asked with
 

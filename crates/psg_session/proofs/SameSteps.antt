@@ -1,5 +1,5 @@
 -- Where two properties hold of the same well-formed trees, the editors for which they count as good take the same steps.
-use Rattle.std.proofs.Common.{◌≡◌, ◌⊎◌, ◌↔◌, ◌<◌, inl, inr, ℕ, List, length, Some, None, Option, refl, sym, ◌∙◌, ap, subst}
+use Rattle.std.proofs.Common.{◌≡◌, ◌⊎◌, ◌↔◌, ◌<◌, inl, inr, ℕ, List, length, Some, None, Option, refl, sym, ◌∙◌, subst}
 use Rattle.std.specs.List.{AllByRecursion}
 use Rattle.psg_terms.specs.Names.{Name}
 use Rattle.psg_grammar.specs.declared.types.Kind.{Kind}
@@ -7,7 +7,7 @@ use Rattle.psg_grammar.specs.declared.types.Definition.{Definition}
 use Rattle.psg_grammar.specs.Fragments.{Fragment, hole, children_of}
 use Rattle.psg_grammar.specs.Insertion.{blank}
 use Rattle.psg_grammar.specs.Marks.{Mark, IsMarkBy}
-use Rattle.psg_grammar.specs.Paths.{Path, node_at, IsList}
+use Rattle.psg_grammar.specs.Paths.{IsList}
 use Rattle.psg_grammar.specs.Sound.{IsSound}
 use Rattle.psg_grammar.specs.WellFormed.{WellFormed}
 use Rattle.psg_grammar.specs.Insertion.{with_operator}
@@ -19,12 +19,12 @@ use Rattle.psg_script.specs.declared.command.Command.TheVariants.{New, Goto, Ref
 use Rattle.psg_menu.specs.Menus.{HasQuietSlots}
 use Rattle.psg_session.specs.declared.refusal.Refusal.{Refusal}
 use Rattle.psg_session.specs.Formed.{HasText, IsFormedState}
-use Rattle.psg_session.specs.PlainState.{State, Opened, Answer, named_path}
-use Rattle.psg_session.specs.PlainStep.{AtNode, HasNoRoom, IsNoNode, IsOther, IsOtherSaved, Gives, by_change, by_new, IsTaken, OfResult, Makes, by_refine, by_insert, by_close, by_paste, by_paste_in, Steps, refuses, opens, changes, undoes, redoes, saves, keeps, fetches, shows, goes, screens, owns, relates, frees, offers, suggests, closing, growing, tests}
+use Rattle.psg_session.specs.PlainState.{State, Answer, named_path}
+use Rattle.psg_session.specs.PlainStep.{AtNode, HasNoRoom, IsNoNode, IsOther, IsOtherSaved, Gives, by_change, IsTaken, OfResult, by_refine, by_insert, by_close, by_paste, by_paste_in, Steps, refuses, opens, changes, undoes, redoes, saves, keeps, fetches, shows, goes, screens, owns, relates, frees, offers, suggests, closing, growing, tests}
 use Rattle.psg_session.specs.Refusals.{Tests, done, test, Refuses, Passes}
 use Rattle.psg_session.specs.Replies.{Reply}
 use Rattle.psg_session.proofs.FormedMakes.{refined, put_in, closed_given, pasted, pasted_in}
-use Rattle.psg_session.proofs.FormedSteps.{keeps_form, makes_given, new_formed}
+use Rattle.psg_session.proofs.FormedSteps.{makes_given, new_formed}
 use Rattle.psg_session.proofs.FormedTrials.{named_phylum, operator_in, trial_formed, wanted_at}
 use Rattle.psg_session.proofs.MenuLaws.{menu_same, naming_same}
 

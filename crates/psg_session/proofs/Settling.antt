@@ -1,5 +1,5 @@
 -- The plain state after an outcome is settled.
-use Rattle.std.proofs.Common.{◌≡◌, inl, inr, List, [], ◌∷◌, map, take, Some, None, Option, sym, ◌∙◌, ap, subst}
+use Rattle.std.proofs.Common.{◌≡◌, inl, inr, List, [], ◌∷◌, map, take, Some, Option, sym, ◌∙◌, ap, subst}
 use Rattle.std.proofs.lemmas.List.{take-map}
 use Rattle.psg_terms.proofs.Lists.{each_take}
 use Rattle.std.specs.List.{AllByRecursion}

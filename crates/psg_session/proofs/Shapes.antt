@@ -1,7 +1,7 @@
 -- Nodes by their shapes.
 use Rattle.std.proofs.Common.{◌≡◌, inl, inr, ℕ, ◌<◌, Bool, List, [], ◌∷◌, length, get_or, Some, None, slice_get, refl, sym, ◌∙◌, ap, subst}
 use Rattle.std.proofs.lemmas.Option.{none-some, slice_get_within, slice_get_read}
-use Rattle.psg_unparse.proofs.Items.{top-part, top-parts}
+use Rattle.psg_unparse.proofs.Items.{top-parts}
 use Rattle.psg_grammar.specs.declared.types.Kind.{Kind}
 use Rattle.psg_grammar.specs.declared.types.Kind.TheVariants as kinds
 use Rattle.psg_grammar.specs.declared.types.Item.{Item}

@@ -1,5 +1,5 @@
 -- The words of a text's tokens are short, and what its quoted texts show has widths.
-use Rattle.std.proofs.Common.{◌≡◌, ◌⊎◌, inl, inr, ℕ, ◌+◌, ◌≤◌, ◌||◌, false, List, [], ◌∷◌, length, map, chars, Some, is_some, IsTrue, refl, subst}
+use Rattle.std.proofs.Common.{◌≡◌, inl, inr, ℕ, ◌+◌, ◌≤◌, ◌||◌, false, List, [], ◌∷◌, length, map, chars, Some, is_some, IsTrue, refl, subst}
 use Rattle.std.specs.Prelude.{IsUtf8}
 use Rattle.std.specs.List.{AllByRecursion}
 use Rattle.std.proofs.lemmas.Bool.Decides.{eqb_tells}
@@ -14,7 +14,7 @@ use Rattle.psg_class.specs.Terminals.{Token, word, numeral, quoted, solo, symbol
 use Rattle.psg_class.specs.Texts.{tokens_of}
 use Rattle.psg_lexis.specs.Classes.{Chars}
 use Rattle.psg_lexis.specs.declared.token.Spanned.{Spanned}
-use Rattle.psg_lexis.specs.Tokens.{is_content, Begins, HasTokens, nothing, blank, next, IsToken}
+use Rattle.psg_lexis.specs.Tokens.{is_content, HasTokens, nothing, blank, next, IsToken}
 use Rattle.psg_lexis.specs.Tokens.{word as is_word, number as is_number, text as is_text, solo as is_solo, symbol as is_symbol, hole as is_hole, more as is_more}
 use Rattle.psg_session.specs.Leaves.{given, leaf_of}
 

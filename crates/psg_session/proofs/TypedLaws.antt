@@ -1,5 +1,5 @@
 -- A text is read as one tree, or has none.
-use Rattle.std.proofs.Common.{◌≡◌, inl, inr, ℕ, ◌+◌, ◌<◌, ◌≤◌, List, length, chars, Ok, Err, sym, subst, arith}
+use Rattle.std.proofs.Common.{◌≡◌, inl, inr, ℕ, ◌+◌, ◌<◌, ◌≤◌, List, length, chars, Ok, Err, refl, sym, subst, arith}
 use Rattle.psg_grammar.specs.declared.types.Kind.{Kind}
 use Rattle.psg_grammar.specs.declared.types.Definition.{Definition}
 use Rattle.psg_grammar.specs.Fragments.{Fragment}
@@ -20,8 +20,8 @@ use Rattle.psg_parse.specs.Answers.{IsFault, IsParsed}
 use Rattle.psg_parse.specs.declared.fault.Goal.{Goal}
 use Rattle.psg_parse.specs.declared.fault.ParseFault.{ParseFault}
 use Rattle.psg_parse.specs.declared.fault.ParseFault.TheVariants as parse_faults
-use Rattle.psg_session.specs.declared.refusal.Refusal.{Refusal}
-use Rattle.psg_session.specs.Typed.{HasNoTreeFor, HasRead, IsParseRefusal, IsTextAnswer, ReadsFor}
+use Rattle.psg_session.specs.Stops.{stop_of_parse}
+use Rattle.psg_session.specs.Typed.{HasNoTreeFor, HasRead, IsTextAnswer, ReadsFor}
 
 -- what is parsed for a text: a tree of the kind at level 0, with no brackets round it
 abbrev pub goal_of : Kind → Goal
@@ -87,12 +87,12 @@ module _ (def : Definition) where
       within = let h : p.nesting + 0 ≤ 400 = p.brackets in omega (arith, h);
     }
 
-    pub not_parsed : (fault : ParseFault) (r : Refusal) → IsFault def (goal_of kind) us fault
-        → IsParseRefusal fault r → IsTextAnswer def kind text (Err r)
-    not_parsed parse_faults.NoTree r none is =
-        inr (inl (is, record { tokens = us; are = are_read; none = none }))
-    not_parsed parse_faults.Deep r h is = inr (inr (
-      is,
+    pub not_parsed : (fault : ParseFault) → IsFault def (goal_of kind) us fault
+        → IsTextAnswer def kind text (Err (stop_of_parse fault))
+    not_parsed parse_faults.NoTree none =
+        inr (inl (refl, record { tokens = us; are = are_read; none = none }))
+    not_parsed parse_faults.Deep h = inr (inr (
+      refl,
       record {
         new = h.tree;
         nesting = h.nesting;
@@ -103,7 +103,7 @@ module _ (def : Definition) where
         ];
       },
     ))
-    not_parsed parse_faults.Memory r h is = absurd is
+    not_parsed parse_faults.Memory h = tt
 
     pub ticks_read : (from to : ℕ) → to ≤ from + length us → HasRead def text from to
     ticks_read from to h = inr (us, are_read, h)

@@ -20,9 +20,10 @@ use Rattle.psg_session.specs.declared.judging.Trial.TheVariants.{Opens, Grows, T
 use Rattle.psg_session.specs.declared.refusal.Refusal.{Refusal}
 use Rattle.psg_session.specs.declared.refusal.Refusal.TheVariants.{Inadmissible}
 use Rattle.psg_session.specs.Good.{IsGoodIn}
-use Rattle.psg_session.specs.Outcomes.{IsNoted, IsRefusalOf, MustBeGood, tree_tests}
+use Rattle.psg_session.specs.Outcomes.{IsJudged, IsNoted, MustBeGood, tree_tests}
 use Rattle.psg_session.specs.Refusals.{Refuses, Passes}
 use Rattle.psg_session.specs.Shrinking.{IsSmallFor}
+use Rattle.psg_session.specs.Stops.{stop_of_note}
 
 -- the summary of a note's tree
 pub root_is : (def : Definition) (f : Fragment) (note : Annotated) → IsNoteOf def f note → IsSummaryOf def f (whole_in note)
@@ -51,37 +52,33 @@ abbrev pub Fails : Definition → Trial → Fragment → Refusal → Type 0
 Fails def trial f r = Refuses (tree_tests def trial (λ P. P f)) r
 
 -- a tree without a note
-pub judged_fault : (def : Definition) (trial : Trial) (f : Fragment) (fault : NoteFault) (r : Refusal)
-    → IsSmallFor def trial f → IsRefusalOf fault r → IsNoteFault def f fault → Fails def trial f r
-judged_fault def Opens f faults.Deep r small e h = absurd (small.0 h)
-judged_fault def Grows f faults.Deep r small e h = inl (h, sym e)
-judged_fault def Types f faults.Deep r small e h = inl (h, sym e)
-judged_fault def Closes f faults.Deep r small e h = absurd (small.0 h)
-judged_fault def Loosens f faults.Deep r small e h = absurd (small.0 h)
-judged_fault def Opens f faults.Big r (low, few, wide) e h = absurd (few h.1)
-judged_fault def Grows f faults.Big r small e (shallow, h) = inr (shallow, inl (h, sym e))
-judged_fault def Types f faults.Big r small e (shallow, h) = inr (shallow, inl (h, sym e))
-judged_fault def Closes f faults.Big r (low, few) e h = absurd (few h.1)
-judged_fault def Loosens f faults.Big r (low, few) e h = absurd (few h.1)
-judged_fault def Opens f (faults.Wide at step) r s e (shallow, small, part, h) = inl (first_is_wide def f _ h, sym e)
-judged_fault def Grows f (faults.Wide at step) r s e (shallow, small, part, h) =
-    inr (shallow, inr (small, inl (first_is_wide def f _ h, sym e)))
-judged_fault def Types f (faults.Wide at step) r s e (shallow, small, part, h) =
-    inr (shallow, inr (small, inl (first_is_wide def f _ h, sym e)))
-judged_fault def Closes f (faults.Wide at step) r s e (shallow, small, part, h) = inl (first_is_wide def f _ h, sym e)
-judged_fault def Loosens f (faults.Wide at step) r s e (shallow, small, part, h) = inl (first_is_wide def f _ h, sym e)
-judged_fault def Opens f faults.Heavy r (low, few, wide) e (shallow, small, narrow, h) = absurd (narrow (wide h))
-judged_fault def Grows f faults.Heavy r s e (shallow, small, narrow, h) =
-    inr (shallow, inr (small, inr (narrow, inl (h, sym e))))
-judged_fault def Types f faults.Heavy r s e (shallow, small, narrow, h) =
-    inr (shallow, inr (small, inr (narrow, inl (h, sym e))))
-judged_fault def Closes f faults.Heavy r s e (shallow, small, narrow, h) = inr (narrow, inl (h, sym e))
-judged_fault def Loosens f faults.Heavy r s e (shallow, small, narrow, h) = inr (narrow, inl (h, sym e))
-judged_fault def Opens f faults.Memory r s e h = absurd e
-judged_fault def Grows f faults.Memory r s e h = absurd e
-judged_fault def Types f faults.Memory r s e h = absurd e
-judged_fault def Closes f faults.Memory r s e h = absurd e
-judged_fault def Loosens f faults.Memory r s e h = absurd e
+pub judged_fault : (def : Definition) (trial : Trial) (f : Fragment) (fault : NoteFault) → IsSmallFor def trial f
+    → IsNoteFault def f fault → IsJudged def trial f (Err (stop_of_note fault))
+judged_fault def Opens f faults.Deep small h = absurd (small.0 h)
+judged_fault def Grows f faults.Deep small h = inl (h, refl)
+judged_fault def Types f faults.Deep small h = inl (h, refl)
+judged_fault def Closes f faults.Deep small h = absurd (small.0 h)
+judged_fault def Loosens f faults.Deep small h = absurd (small.0 h)
+judged_fault def Opens f faults.Big (low, few, wide) h = absurd (few h.1)
+judged_fault def Grows f faults.Big small (shallow, h) = inr (shallow, inl (h, refl))
+judged_fault def Types f faults.Big small (shallow, h) = inr (shallow, inl (h, refl))
+judged_fault def Closes f faults.Big (low, few) h = absurd (few h.1)
+judged_fault def Loosens f faults.Big (low, few) h = absurd (few h.1)
+judged_fault def Opens f (faults.Wide at step) s (shallow, small, part, h) = inl (first_is_wide def f _ h, refl)
+judged_fault def Grows f (faults.Wide at step) s (shallow, small, part, h) =
+    inr (shallow, inr (small, inl (first_is_wide def f _ h, refl)))
+judged_fault def Types f (faults.Wide at step) s (shallow, small, part, h) =
+    inr (shallow, inr (small, inl (first_is_wide def f _ h, refl)))
+judged_fault def Closes f (faults.Wide at step) s (shallow, small, part, h) = inl (first_is_wide def f _ h, refl)
+judged_fault def Loosens f (faults.Wide at step) s (shallow, small, part, h) = inl (first_is_wide def f _ h, refl)
+judged_fault def Opens f faults.Heavy (low, few, wide) (shallow, small, narrow, h) = absurd (narrow (wide h))
+judged_fault def Grows f faults.Heavy s (shallow, small, narrow, h) =
+    inr (shallow, inr (small, inr (narrow, inl (h, refl))))
+judged_fault def Types f faults.Heavy s (shallow, small, narrow, h) =
+    inr (shallow, inr (small, inr (narrow, inl (h, refl))))
+judged_fault def Closes f faults.Heavy s (shallow, small, narrow, h) = inr (narrow, inl (h, refl))
+judged_fault def Loosens f faults.Heavy s (shallow, small, narrow, h) = inr (narrow, inl (h, refl))
+judged_fault def trial f faults.Memory small h = tt
 
 module _ (def : Definition) (f : Fragment) (note : Annotated) (noted : IsNoteOf def f note) where
   not_good : (culprits_in note ≡ [] → ⊥) → IsGoodIn def f → ⊥

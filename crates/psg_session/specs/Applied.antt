@@ -1,5 +1,5 @@
 -- What a command does to an editor, as the plain editor does it.
-use Rattle.std.specs.Prelude.{ℕ, ◌≡◌, Option, Some, None, IfSome}
+use Rattle.std.specs.Prelude.{ℕ, Option, Some, None, IfSome}
 use Rattle.psg_grammar.specs.declared.types.Definition.{Definition}
 use Rattle.psg_grammar.specs.Legal.{IsCompletable}
 use Rattle.psg_script.specs.declared.command.Command.{Command}

@@ -1,4 +1,5 @@
 pub mod Shelf
+pub mod Stops
 pub mod PlainState
 pub mod Marked
 pub mod Refusals
@@ -27,7 +28,6 @@ pub mod SomeStep
 pub mod Reached
 pub mod Printouts
 pub mod Lines
-pub mod Relating
 pub mod Extents
 pub mod Offering
 pub mod Gathered

@@ -1,26 +1,17 @@
 -- What is found and replied where operators and names are tried at a place.
-use Rattle.std.specs.Prelude.{ℕ, ◌≡◌, ◌<◌, ◌+◌, ◌⊎◌, List, [], ◌∷◌, length, map, Option, Some, None, Result, Ok, Err}
-use Rattle.std.specs.Prelude.{Vec}
-use Rattle.std.specs.declared.alloc.Global.{Global}
+use Rattle.std.specs.Prelude.{ℕ, ◌≡◌, ◌<◌, ◌+◌, ◌⊎◌, length, Option, Some, None, Result, Ok, Err}
 use Rattle.psg_terms.specs.Names.{Name}
 use Rattle.psg_grammar.specs.declared.types.Kind.TheVariants as kinds
 use Rattle.psg_grammar.specs.declared.types.Definition.{Definition}
 use Rattle.psg_grammar.specs.Fragments.{Fragment}
-use Rattle.psg_grammar.specs.Kinds.{op_name_of}
 use Rattle.psg_grammar.specs.Paths.{Path}
 use Rattle.psg_grammar.specs.Work.{climb_of}
-use Rattle.psg_eval.specs.declared.question.FocusFault.{FocusFault}
-use Rattle.psg_eval.specs.declared.question.FocusFault.TheVariants as questions
 use Rattle.psg_eval.specs.Frames.{CanClimb, StandAt, rungs}
 use Rattle.psg_menu.specs.Answers.{HasOneName}
 use Rattle.psg_session.specs.declared.menus.Site.{Site}
 use Rattle.psg_session.specs.declared.refusal.Refusal.{Refusal}
-use Rattle.psg_session.specs.declared.refusal.Refusal.TheVariants.{Unknown, OtherPhylum, BadArguments, TooWide}
-use Rattle.psg_session.specs.declared.replies.Reply.{Reply}
-use Rattle.psg_session.specs.Answers.{names_line}
+use Rattle.psg_session.specs.declared.refusal.Refusal.TheVariants.{Unknown, OtherPhylum, BadArguments}
 use Rattle.psg_session.specs.PlainStep.{HasNoPlace, IsOfPhylum, IsOperator, IsWanted}
-use Rattle.psg_session.specs.Replies.{refused, answered}
-use Rattle.psg_session.specs.Views.{reply_of}
 
 -- the evaluations of a climb from the place
 abbrev pub climb_before : Fragment → Path → Option ℕ → ℕ
@@ -45,17 +36,3 @@ module _ (def : Definition) where
       ((r ≡ Unknown) × ((o : ℕ) → IsOperator def o name → ⊥))
       ⊎ ((r ≡ OtherPhylum) × (o : ℕ) × IsOperator def o name × (IsOfPhylum def o p → ⊥))
       ⊎ ((r ≡ BadArguments) × (o : ℕ) × IsOperator def o name × IsOfPhylum def o p × (HasOneName def o p → ⊥))
-
-  -- the names of the operators on a line, or the refusal of a trial that is too wide
-  abbrev pub IsOffered : Result (Vec ℕ Global) FocusFault → Reply → Type 0
-  IsOffered (Ok ops) reply =
-      (names : List Name) × (map (op_name_of def) ops.items ≡ map Some names)
-      × (reply_of reply ≡ answered (names_line names ∷ []))
-  IsOffered (Err questions.Wide) reply = reply_of reply ≡ refused TooWide
-  IsOffered (Err questions.Memory) reply = ⊥
-
--- the names on a line, or the refusal of a trial that is too wide
-abbrev pub IsSuggested : Result (Vec Name Global) FocusFault → Reply → Type 0
-IsSuggested (Ok names) reply = reply_of reply ≡ answered (names_line names.items ∷ [])
-IsSuggested (Err questions.Wide) reply = reply_of reply ≡ refused TooWide
-IsSuggested (Err questions.Memory) reply = ⊥

@@ -11,10 +11,8 @@ use Rattle.psg_grammar.specs.Sizes.{IsBig, IsDeep}
 use Rattle.psg_cache.specs.Notes.{IsNoteOf, IsNoteFault}
 use Rattle.psg_cache.specs.Annotated.{Annotated, tree_in}
 use Rattle.psg_cache.specs.declared.note.NoteFault.{NoteFault}
-use Rattle.psg_cache.specs.declared.note.NoteFault.TheVariants as faults
 use Rattle.psg_history.specs.Versions.{Versions}
 use Rattle.psg_script.specs.declared.command.Command.{Command}
-use Rattle.psg_script.specs.declared.command.Command.TheVariants.{Refine, Insert, Cut, Remove, Close, Reopen, Paste}
 use Rattle.psg_script.specs.declared.command.Where.{Where}
 use Rattle.psg_session.specs.declared.editor.OpenedTree.{OpenedTree}
 use Rattle.psg_session.specs.declared.editor.Editor.{Editor}
@@ -28,14 +26,14 @@ use Rattle.psg_session.specs.declared.judging.Trial.{Trial}
 use Rattle.psg_session.specs.declared.judging.Trial.TheVariants.{Opens, Grows, Types, Closes, Loosens}
 use Rattle.psg_session.specs.declared.changes.Listed.{Listed}
 use Rattle.psg_session.specs.declared.changes.Proposal.{Proposal}
-use Rattle.psg_session.specs.declared.changes.Plan.{Plan}
-use Rattle.psg_session.specs.declared.changes.Plan.TheVariants.{RefusedBy, Makes as Plans}
 use Rattle.psg_session.specs.declared.refusal.Refusal.{Refusal}
 use Rattle.psg_session.specs.declared.refusal.Refusal.TheVariants.{NoFragment, NoNode, NothingOpened, TooBig, TooDeep}
-use Rattle.psg_session.specs.declared.refusal.Refusal.TheVariants.{TooHeavy, TooWide, Unknown, OtherPhylum}
+use Rattle.psg_session.specs.declared.refusal.Refusal.TheVariants.{Unknown, OtherPhylum}
 use Rattle.psg_session.specs.declared.refusal.Refusal.TheVariants.{BadArguments}
 use Rattle.psg_session.specs.declared.replies.Reply.{Reply}
-use Rattle.psg_session.specs.declared.replies.Reply.TheVariants.{Answered, Marked}
+use Rattle.psg_session.specs.declared.replies.Reply.TheVariants.{Answered, Marked, Refused}
+use Rattle.psg_session.specs.declared.stop.Stop.{Stop}
+use Rattle.psg_session.specs.declared.stop.Stop.TheVariants as stops
 use Rattle.psg_session.specs.declared.edits.Edit.{Edit}
 use Rattle.psg_library.specs.declared.fragment.SavedFragment.{SavedFragment as Saved}
 use Rattle.psg_session.specs.Edits.{MayEdit, cost_of, edited}
@@ -140,6 +138,13 @@ pub record IsOutcome (def : Definition) (e : Editor) (answer : Answer) (command 
   pub steps : Steps def (IsGoodIn def) (state_of e) answer command (after e outcome) (reply_of (reply_in outcome))
   pub fit : IsFit def e.opened outcome
 
+-- What is found has the property: the outcome, or that the editor stays and the reply is the refusal. Nothing is said
+-- where memory ran out.
+abbrev pub IfFound : Result Outcome Stop → (Outcome → Type 0) → Type 0
+IfFound (Ok outcome) P = P outcome
+IfFound (Err (stops.Refused r)) P = P (Stays (Refused r))
+IfFound (Err stops.Memory) P = Unit {0}
+
 -- the editor went on with another version of the opened fragment; where nothing was opened it stays
 abbrev pub IsGoneOn : Editor → Editor → Annotated → Path → Type 0
 IsGoneOn old new note cursor =
@@ -212,17 +217,10 @@ IsNoted def f (Ok note) = IsNoteOf def f note
 IsNoted def f (Err fault) = IsNoteFault def f fault
 
 -- the note of the tree, which passes all tests; or the refusal of the first test that it fails
-abbrev pub IsJudged : Definition → Trial → Fragment → Result Annotated Refusal → Type 0
+abbrev pub IsJudged : Definition → Trial → Fragment → Result Annotated Stop → Type 0
 IsJudged def trial f (Ok note) = IsNoteOf def f note × Passes (tree_tests def trial (λ P. P f))
-IsJudged def trial f (Err r) = Refuses (tree_tests def trial (λ P. P f)) r
-
--- the refusal of a tree whose note has this fault
-abbrev pub IsRefusalOf : NoteFault → Refusal → Type 0
-IsRefusalOf faults.Deep r = r ≡ TooDeep
-IsRefusalOf faults.Big r = r ≡ TooBig
-IsRefusalOf (faults.Wide path step) r = r ≡ TooWide
-IsRefusalOf faults.Heavy r = r ≡ TooHeavy
-IsRefusalOf faults.Memory r = ⊥
+IsJudged def trial f (Err (stops.Refused r)) = Refuses (tree_tests def trial (λ P. P f)) r
+IsJudged def trial f (Err stops.Memory) = Unit {0}
 
 -- the change must leave a good fragment
 abbrev pub MustBeGood : Trial → Type 0
@@ -253,20 +251,21 @@ pub record IsProposal (def : Definition) (e : Editor) (command : Command) (m : P
   pub counts : MayTick def (state_of e) command (cost_of m.edit (tree_in held.note))
   pub sized : IsSizedBy m.trial (tree_in held.note) (edited m.edit (tree_in held.note))
 
--- the refusal of the first test that holds, or what the command makes
-abbrev pub IsPlan : Definition → Editor → Command → Plan → Type 0
-IsPlan def e command (RefusedBy r) = IsRefused def (IsGoodIn def) (state_of e) not_asked command r
-IsPlan def e command (Plans m) = IsProposal def e command m
+-- what the command makes, or the refusal of the first test that holds
+abbrev pub IsPlan : Definition → Editor → Command → Result Proposal Stop → Type 0
+IsPlan def e command (Ok m) = IsProposal def e command m
+IsPlan def e command (Err (stops.Refused r)) = IsRefused def (IsGoodIn def) (state_of e) not_asked command r
+IsPlan def e command (Err stops.Memory) = Unit {0}
 
 -- The counter went up by no more than the planned change costs; where nothing was planned it stayed.
-abbrev pub Spends : Editor → Plan → ℕ → ℕ → Type 0
+abbrev pub Spends : Editor → Result Proposal Stop → ℕ → ℕ → Type 0
 Spends e plan from to =
     (to ≡ from)
-    ⊎ ((m : Proposal) × (plan ≡ Plans m) × (held : OpenedTree) × (e.opened ≡ Some held)
+    ⊎ ((m : Proposal) × (plan ≡ Ok m) × (held : OpenedTree) × (e.opened ≡ Some held)
     × (to ≤ from + cost_of m.edit (tree_in held.note)))
 
 -- where the counter is at the number `so_far`, the planned change may be made within the bound of the command
-abbrev pub MaySpend : Definition → Editor → Command → ℕ → ℕ → Plan → Type 0
+abbrev pub MaySpend : Definition → Editor → Command → ℕ → ℕ → Result Proposal Stop → Type 0
 MaySpend def e command from so_far plan =
     (to : ℕ) → Spends e plan so_far to → HasTicked def (state_of e) command from to
 
@@ -278,23 +277,13 @@ pub record IsListed (def : Definition) (node : Fragment) (l : Listed) : Type 0 w
   pub is_list : IsList node
 
 -- the operator with its names and literals; or why there is none, where one of the phylum is wanted
-abbrev pub IsFreshAnswer : Definition → ℕ → Name → List ℕ → Result Fragment Refusal → Type 0
+abbrev pub IsFreshAnswer : Definition → ℕ → Name → List ℕ → Result Fragment Stop → Type 0
 IsFreshAnswer def p name args (Ok fresh) =
     (o : ℕ) × (leaves : List Leaf) × IsOperator def o name × IsOfPhylum def o p × GivesLeaves def o args leaves
     × (fresh ≡ fresh_operator def o leaves)
-IsFreshAnswer def p name args (Err r) =
+IsFreshAnswer def p name args (Err stops.Memory) = Unit {0}
+IsFreshAnswer def p name args (Err (stops.Refused r)) =
     ((r ≡ Unknown) × ((o : ℕ) → IsOperator def o name → ⊥))
     ⊎ ((r ≡ OtherPhylum) × (o : ℕ) × IsOperator def o name × (IsOfPhylum def o p → ⊥))
     ⊎ ((r ≡ BadArguments) × (o : ℕ) × IsOperator def o name × IsOfPhylum def o p
     × ((leaves : List Leaf) → GivesLeaves def o args leaves → ⊥))
-
--- the commands that change the opened fragment without typed text
-abbrev pub IsChanging : Command → Type 0
-IsChanging (Refine place op args) = Unit {0}
-IsChanging (Insert place k op args) = Unit {0}
-IsChanging (Cut place) = Unit {0}
-IsChanging (Remove place k) = Unit {0}
-IsChanging (Close place) = Unit {0}
-IsChanging (Reopen place) = Unit {0}
-IsChanging (Paste place k name) = Unit {0}
-IsChanging _ = ⊥

@@ -1,30 +1,19 @@
 -- The printed text of the opened fragment, which is kept from one command to the next.
-use Rattle.std.specs.Prelude.{◌≡◌, ◌⊎◌, Option, None, Some, option_map}
+use Rattle.std.specs.Prelude.{◌≡◌, ◌⊎◌, Option, None, Some, option_map, Result, Ok}
 use Rattle.psg_grammar.specs.declared.types.Definition.{Definition}
-use Rattle.psg_script.specs.declared.command.Command.{Command}
-use Rattle.psg_script.specs.declared.command.Command.TheVariants.{Goto, Range, Screen, Show}
 use Rattle.psg_unparse.specs.Spans.{printed_of}
 use Rattle.psg_unparse.specs.declared.spans.Printed.{Printed}
 use Rattle.psg_cache.specs.Annotated.{tree_in}
 use Rattle.psg_session.specs.declared.changes.Proposal.{Proposal}
-use Rattle.psg_session.specs.declared.changes.Plan.{Plan}
-use Rattle.psg_session.specs.declared.changes.Plan.TheVariants.{Makes}
 use Rattle.psg_session.specs.declared.editor.Editor.{Editor}
 use Rattle.psg_session.specs.declared.editor.OpenedTree.{OpenedTree}
 use Rattle.psg_session.specs.declared.editor.Outcome.{Outcome}
 use Rattle.psg_session.specs.declared.session.Parts.{Parts}
+use Rattle.psg_session.specs.declared.stop.Stop.{Stop}
 use Rattle.psg_session.specs.Edits.{edited}
 use Rattle.psg_session.specs.Outcomes.{after}
 use Rattle.psg_session.specs.PlainState.{Opened}
 use Rattle.psg_session.specs.Sessions.{IsSession, opened_of}
-
--- the commands that are answered from the printed text
-abbrev pub IsPrinting : Command → Type 0
-IsPrinting (Goto place) = Unit {0}
-IsPrinting (Range start end text) = Unit {0}
-IsPrinting Show = Unit {0}
-IsPrinting (Screen top left rows cols) = Unit {0}
-IsPrinting _ = ⊥
 
 module _ (def : Definition) where
   -- the opened fragment is printed so; there is no text where nothing is opened
@@ -40,9 +29,9 @@ module _ (def : Definition) where
   IsNextText editor outcome printed = IsKeptText (after editor outcome).opened printed
 
   -- no text is known of the planned tree, or it is that tree's
-  pub data IsPlannedText (e : Editor) (plan : Plan) : Option Printed → Type 0 where
+  pub data IsPlannedText (e : Editor) (plan : Result Proposal Stop) : Option Printed → Type 0 where
     unknown : IsPlannedText e plan None
-    known : (held : OpenedTree) (made : Proposal) → e.opened ≡ Some held → plan ≡ Makes made
+    known : (held : OpenedTree) (made : Proposal) → e.opened ≡ Some held → plan ≡ Ok made
         → IsPlannedText e plan (Some (printed_of def (edited made.edit (tree_in held.note))))
 
 -- a session that keeps no text, or that of its opened fragment

@@ -1,24 +1,13 @@
 -- What is answered where bytes of the printed text are replaced.
-use Rattle.std.specs.Prelude.{◌≡◌, Result, Ok, Err, IsUtf8}
+use Rattle.std.specs.Prelude.{Result, Ok, Err, IsUtf8}
 use Rattle.psg_grammar.specs.declared.types.Definition.{Definition}
 use Rattle.psg_unparse.specs.Layout.{text_of}
 use Rattle.psg_textedit.specs.Regions.{Typing, IsOutside, IsTyped}
 use Rattle.psg_textedit.specs.Typing.{IsForNode, IsTextFault}
 use Rattle.psg_textedit.specs.declared.change.Change.{Change}
 use Rattle.psg_textedit.specs.declared.change.TextFault.{TextFault}
-use Rattle.psg_textedit.specs.declared.change.TextFault.TheVariants as faults
 use Rattle.psg_session.specs.PlainState.{Opened}
 use Rattle.psg_session.specs.Ranged.{text_with}
-use Rattle.psg_session.specs.declared.refusal.Refusal.{Refusal}
-use Rattle.psg_session.specs.declared.refusal.Refusal.TheVariants.{NoRange, NoTokens, NoTree, TooDeep}
-
--- the refusal of bytes that are not replaced for this fault
-abbrev pub IsRangeRefusal : TextFault → Refusal → Type 0
-IsRangeRefusal faults.NoPlace r = r ≡ NoRange
-IsRangeRefusal faults.NoTokens r = r ≡ NoTokens
-IsRangeRefusal faults.NoTree r = r ≡ NoTree
-IsRangeRefusal faults.Deep r = r ≡ TooDeep
-IsRangeRefusal faults.Memory r = ⊥
 
 module _ (def : Definition) (e : Typing) (old : Opened) where
   -- With the tree in place of a node of its kind the whole is the tree of the whole new text, which is UTF-8.

@@ -9,8 +9,9 @@ use Rattle.psg_script.specs.declared.command.Command.{Command}
 use Rattle.psg_script.specs.declared.command.Command.TheVariants.{Keep, Fetch}
 use Rattle.psg_session.specs.declared.editor.Editor.{Editor}
 use Rattle.psg_session.specs.declared.editor.Outcome.{Outcome}
-use Rattle.psg_session.specs.declared.refusal.Refusal.{Refusal}
 use Rattle.psg_session.specs.declared.refusal.Refusal.TheVariants.{KeptUnreadable, TooBig}
+use Rattle.psg_session.specs.declared.stop.Stop.{Stop}
+use Rattle.psg_session.specs.declared.stop.Stop.TheVariants.{Refused, Memory}
 use Rattle.psg_session.specs.Applied.{IsAskedBy}
 use Rattle.psg_session.specs.Exchanges.{Asked, IsAnswered, most_kept_bytes, Outside}
 use Rattle.psg_session.specs.Outcomes.{IsOutcome}
@@ -36,9 +37,10 @@ pub record HasReached (def : Definition) (e : Editor) (command : Command) (befor
   pub ticked : HasTickedWith def (state_of e) answer command from to
 
 -- The fragment that the bytes keep, which is of its kind and not too large; or why none is taken from them.
-abbrev pub IsFragmentAnswer : Definition → List ℕ → Result Saved Refusal → Type 0
+abbrev pub IsFragmentAnswer : Definition → List ℕ → Result Saved Stop → Type 0
 IsFragmentAnswer def bytes (Ok x) =
     (length bytes ≤ most_kept_bytes) × IsKept def bytes x × (IsBig x.tree → ⊥) × WellFormed def x.tree x.kind
-IsFragmentAnswer def bytes (Err r) =
+IsFragmentAnswer def bytes (Err Memory) = Unit {0}
+IsFragmentAnswer def bytes (Err (Refused r)) =
     ((r ≡ KeptUnreadable) × ((most_kept_bytes < length bytes) ⊎ ((x : Saved) → IsKept def bytes x → ⊥)))
     ⊎ ((r ≡ TooBig) × (length bytes ≤ most_kept_bytes) × (x : Saved) × IsKept def bytes x × IsBig x.tree)

@@ -8,20 +8,13 @@ use Rattle.psg_grammar.specs.Sizes.{IsDeep}
 use Rattle.psg_grammar.specs.WellFormed.{WellFormed}
 use Rattle.psg_class.specs.Texts.{HasNoTokens, HasNoTree, ReadsAs, TextTokens}
 use Rattle.psg_lexis.specs.declared.token.Spanned.{Spanned}
-use Rattle.psg_parse.specs.declared.fault.ParseFault.{ParseFault}
-use Rattle.psg_parse.specs.declared.fault.ParseFault.TheVariants as parse_faults
-use Rattle.psg_session.specs.declared.refusal.Refusal.{Refusal}
 use Rattle.psg_session.specs.declared.refusal.Refusal.TheVariants.{NoTokens, NoTree, TooDeep}
+use Rattle.psg_session.specs.declared.stop.Stop.{Stop}
+use Rattle.psg_session.specs.declared.stop.Stop.TheVariants.{Refused, Memory}
 
 -- how many pairs of brackets may be inside each other
 abbrev pub most_brackets : ℕ
 most_brackets = 400
-
--- the refusal of tokens that are not parsed for this fault
-abbrev pub IsParseRefusal : ParseFault → Refusal → Type 0
-IsParseRefusal parse_faults.NoTree r = r ≡ NoTree
-IsParseRefusal parse_faults.Deep r = r ≡ TooDeep
-IsParseRefusal parse_faults.Memory r = ⊥
 
 module _ (def : Definition) where
   -- ---- a text in place of a node
@@ -63,9 +56,10 @@ module _ (def : Definition) where
     pub within : nesting ≤ most_brackets
 
   -- the tree, or why there is none
-  abbrev pub IsTextAnswer : Kind → List ℕ → Result Fragment Refusal → Type 0
+  abbrev pub IsTextAnswer : Kind → List ℕ → Result Fragment Stop → Type 0
   IsTextAnswer kind text (Ok new) = HasTree kind text new
-  IsTextAnswer kind text (Err r) =
+  IsTextAnswer kind text (Err Memory) = Unit {0}
+  IsTextAnswer kind text (Err (Refused r)) =
       ((r ≡ NoTokens) × HasNoTokens def text)
       ⊎ (((r ≡ NoTree) × HasNoTree def kind text) ⊎ ((r ≡ TooDeep) × HasDeepTree kind text))
 

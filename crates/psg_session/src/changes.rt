@@ -19,6 +19,7 @@ use crate::judging::Trial;
 use crate::leaves::read_leaves;
 use crate::noting::tree_of;
 use crate::refusal::Refusal;
+use crate::stop::Stop;
 use psg_grammar::{Definition, Kind, ListKind, op_named};
 use psg_script::Where;
 use psg_specimen::LanguageParts;
@@ -35,15 +36,6 @@ pub struct Proposal {
     pub edit: Edit,
     /// The path of the cursor after the change.
     pub cursor: Path,
-}
-
-/// What a command makes, or its refusal.
-#[derive(Drop)]
-pub enum Plan {
-    /// The command is refused before any tree is made.
-    RefusedBy(Refusal),
-    /// The command makes this, whose tree is still to be tested.
-    Makes(Proposal),
 }
 
 /// Gives the phylum of the placeholder that the tree is, if it is one.
@@ -169,25 +161,19 @@ pub fn refine(
     place: &Where,
     name: &Txt,
     arguments: &Txt,
-) -> Result<Plan, AllocError>
+) -> Result<Proposal, Stop>
     requires language { IsLanguage language.now }
     requires editor { IsEditor language.now.definition editor.now }
-    ensures { IfOk result (IsPlan language.now.definition editor.now
-        (commands.Refine place.now name.now arguments.now)) }
+    ensures { IsPlan language.now.definition editor.now
+        (commands.Refine place.now name.now arguments.now) result }
 {
-    let found = match find(editor, place) {
-        Ok(found) => found,
-        Err(refusal) => return Ok(Plan::RefusedBy(refusal)),
-    };
+    let found = find(editor, place)?;
     let Some(phylum) = hole_phylum(found.node) else {
-        return Ok(Plan::RefusedBy(Refusal::NotHole));
+        return Err(Stop::Refused(Refusal::NotHole));
     };
-    let fresh = match fresh_of(alloc, language, phylum, name, arguments)? {
-        Ok(fresh) => fresh,
-        Err(refusal) => return Ok(Plan::RefusedBy(refusal)),
-    };
+    let fresh = fresh_of(alloc, language, phylum, name, arguments)?;
     let made = put(alloc, Trial::Grows, found.path, fresh)?;
-    Ok(Plan::Makes(made))
+    Ok(made)
 }
 
 /// Makes the operator of the name with the names and literals of the arguments, which is to be where one of the phylum
@@ -199,22 +185,22 @@ fn fresh_of(
     phylum: u32,
     name: &Txt,
     arguments: &Txt,
-) -> Result<Result<Tree, Refusal>, AllocError>
+) -> Result<Tree, Stop>
     requires language { IsLanguage language.now }
-    ensures { IfOk result (IsFreshAnswer language.now.definition phylum name.now arguments.now) }
+    ensures { IsFreshAnswer language.now.definition phylum name.now arguments.now result }
 {
     let definition = &language.definition;
     let Some(op) = op_named(definition, name.as_str()) else {
-        return Ok(Err(Refusal::Unknown));
+        return Err(Stop::Refused(Refusal::Unknown));
     };
     if definition.operators.as_slice()[op as usize].phylum != phylum {
-        return Ok(Err(Refusal::OtherPhylum));
+        return Err(Stop::Refused(Refusal::OtherPhylum));
     }
     let Some(leaves) = read_leaves(alloc, language, op, arguments.as_str())? else {
-        return Ok(Err(Refusal::BadArguments));
+        return Err(Stop::Refused(Refusal::BadArguments));
     };
     let fresh = fresh_operator(alloc, definition, op, leaves.as_slice())?;
-    Ok(Ok(fresh))
+    Ok(fresh)
 }
 
 /// Plans an insertion: the operator as a new element before the place of the list.
@@ -226,26 +212,20 @@ pub fn insert_element(
     number: u32,
     name: &Txt,
     arguments: &Txt,
-) -> Result<Plan, AllocError>
+) -> Result<Proposal, Stop>
     requires language { IsLanguage language.now }
     requires editor { IsEditor language.now.definition editor.now }
-    ensures { IfOk result (IsPlan language.now.definition editor.now
-        (commands.Insert place.now number name.now arguments.now)) }
+    ensures { IsPlan language.now.definition editor.now
+        (commands.Insert place.now number name.now arguments.now) result }
 {
-    let found = match find(editor, place) {
-        Ok(found) => found,
-        Err(refusal) => return Ok(Plan::RefusedBy(refusal)),
-    };
+    let found = find(editor, place)?;
     let Some(list) = as_list(&language.definition, found.node) else {
-        return Ok(Plan::RefusedBy(Refusal::NoPlace));
+        return Err(Stop::Refused(Refusal::NoPlace));
     };
     if list.elements < number as usize {
-        return Ok(Plan::RefusedBy(Refusal::NoPlace));
+        return Err(Stop::Refused(Refusal::NoPlace));
     }
-    let fresh = match fresh_of(alloc, language, list.kind.element, name, arguments)? {
-        Ok(fresh) => fresh,
-        Err(refusal) => return Ok(Plan::RefusedBy(refusal)),
-    };
+    let fresh = fresh_of(alloc, language, list.kind.element, name, arguments)?;
     let at = copied(alloc, found.path)?;
     let cursor = longer(alloc, found.path, number)?;
     let edit = Edit::Add {
@@ -254,11 +234,11 @@ pub fn insert_element(
         new: fresh,
     };
     let trial = Trial::Grows;
-    Ok(Plan::Makes(Proposal {
+    Ok(Proposal {
         trial,
         edit,
         cursor,
-    }))
+    })
 }
 
 /// Makes the path with one more step.
@@ -280,22 +260,19 @@ pub fn cut(
     language: &LanguageParts,
     editor: &Editor,
     place: &Where,
-) -> Result<Plan, AllocError>
+) -> Result<Proposal, Stop>
     requires language { IsLanguage language.now }
     requires editor { IsEditor language.now.definition editor.now }
-    ensures { IfOk result (IsPlan language.now.definition editor.now (commands.Cut place.now)) }
+    ensures { IsPlan language.now.definition editor.now (commands.Cut place.now) result }
 {
-    let found = match find(editor, place) {
-        Ok(found) => found,
-        Err(refusal) => return Ok(Plan::RefusedBy(refusal)),
-    };
+    let found = find(editor, place)?;
     let kind = kind_of(&language.definition, found.node);
     if language.is_declaring(kind) {
-        return Ok(Plan::RefusedBy(Refusal::NoPlaceholder));
+        return Err(Stop::Refused(Refusal::NoPlaceholder));
     }
     let new = blank(alloc, &language.definition, kind)?;
     let made = put(alloc, Trial::Loosens, found.path, new)?;
-    Ok(Plan::Makes(made))
+    Ok(made)
 }
 
 /// Plans a removal: the list without the element.
@@ -305,30 +282,27 @@ pub fn remove_element(
     editor: &Editor,
     place: &Where,
     number: u32,
-) -> Result<Plan, AllocError>
+) -> Result<Proposal, Stop>
     requires language { IsLanguage language.now }
     requires editor { IsEditor language.now.definition editor.now }
-    ensures { IfOk result (IsPlan language.now.definition editor.now (commands.Remove place.now number)) }
+    ensures { IsPlan language.now.definition editor.now (commands.Remove place.now number) result }
 {
-    let found = match find(editor, place) {
-        Ok(found) => found,
-        Err(refusal) => return Ok(Plan::RefusedBy(refusal)),
-    };
+    let found = find(editor, place)?;
     let Some(list) = as_list(&language.definition, found.node) else {
-        return Ok(Plan::RefusedBy(Refusal::NoPlace));
+        return Err(Stop::Refused(Refusal::NoPlace));
     };
     if list.elements <= number as usize {
-        return Ok(Plan::RefusedBy(Refusal::NoPlace));
+        return Err(Stop::Refused(Refusal::NoPlace));
     }
     let at = copied(alloc, found.path)?;
     let cursor = copied(alloc, found.path)?;
     let edit = Edit::Take { at, place: number };
     let trial = Trial::Loosens;
-    Ok(Plan::Makes(Proposal {
+    Ok(Proposal {
         trial,
         edit,
         cursor,
-    }))
+    })
 }
 
 /// Plans that the list is finished.
@@ -337,21 +311,18 @@ pub fn close(
     language: &LanguageParts,
     editor: &Editor,
     place: &Where,
-) -> Result<Plan, AllocError>
+) -> Result<Proposal, Stop>
     requires language { IsLanguage language.now }
     requires editor { IsEditor language.now.definition editor.now }
-    ensures { IfOk result (IsPlan language.now.definition editor.now (commands.Close place.now)) }
+    ensures { IsPlan language.now.definition editor.now (commands.Close place.now) result }
 {
-    let found = match find(editor, place) {
-        Ok(found) => found,
-        Err(refusal) => return Ok(Plan::RefusedBy(refusal)),
-    };
+    let found = find(editor, place)?;
     if !is_unfinished(&language.definition, found.node) {
-        return Ok(Plan::RefusedBy(Refusal::NoPlace));
+        return Err(Stop::Refused(Refusal::NoPlace));
     }
     let new = with_end(alloc, found.node, false)?;
     let made = put(alloc, Trial::Closes, found.path, new)?;
-    Ok(Plan::Makes(made))
+    Ok(made)
 }
 
 /// Plans that the list is unfinished again.
@@ -360,19 +331,16 @@ pub fn reopen(
     language: &LanguageParts,
     editor: &Editor,
     place: &Where,
-) -> Result<Plan, AllocError>
+) -> Result<Proposal, Stop>
     requires language { IsLanguage language.now }
     requires editor { IsEditor language.now.definition editor.now }
-    ensures { IfOk result (IsPlan language.now.definition editor.now (commands.Reopen place.now)) }
+    ensures { IsPlan language.now.definition editor.now (commands.Reopen place.now) result }
 {
-    let found = match find(editor, place) {
-        Ok(found) => found,
-        Err(refusal) => return Ok(Plan::RefusedBy(refusal)),
-    };
+    let found = find(editor, place)?;
     if !may_reopen(&language.definition, found.node) {
-        return Ok(Plan::RefusedBy(Refusal::NoPlace));
+        return Err(Stop::Refused(Refusal::NoPlace));
     }
     let new = with_end(alloc, found.node, true)?;
     let made = put(alloc, Trial::Loosens, found.path, new)?;
-    Ok(Plan::Makes(made))
+    Ok(made)
 }

@@ -1,33 +1,27 @@
 //! Saved fragments in files.
-ghost use Rattle.std.specs.Prelude.{◌≡◌, ◌↔◌, ◌++◌, ◌∷◌, ℕ, [], IfErr, IfOk, IsTrue, None, map, option_copied};
-ghost use Rattle.std.specs.Prelude.{string_bytes};
+ghost use Rattle.std.specs.Prelude.{◌≡◌, ◌↔◌, ◌++◌, ◌∷◌, ℕ, [], IfOk, IsTrue, map, string_bytes};
 ghost use Rattle.psg_terms.specs.Names.{Name};
 ghost use Rattle.psg_grammar.specs.Sizes.{HasLongList, IsBig};
-ghost use Rattle.psg_library.specs.declared.fragment.KeptFault.TheVariants as faults;
 ghost use Rattle.psg_library.specs.Keeping.{MayCount};
 ghost use Rattle.psg_script.specs.declared.command.Command.TheVariants as commands;
-ghost use Rattle.psg_session.specs.declared.refusal.Refusal.TheVariants.{KeptUnreadable};
 ghost use Rattle.psg_session.specs.Applied.{HasStopped};
-ghost use Rattle.psg_session.specs.Formed.{IsFormedState};
 ghost use Rattle.psg_session.specs.PlainState.{got};
-ghost use Rattle.psg_session.specs.Outcomes.{IsOutcome};
-ghost use Rattle.psg_session.specs.Exchanges.{Outside};
-ghost use Rattle.psg_session.specs.Reached.{HasReached, IsFragmentAnswer, IsReaching};
-ghost use Rattle.psg_session.specs.Printouts.{IsNextText, IsPrinted, IsPrinting};
-ghost use Rattle.psg_session.specs.Sessions.{opened_of, state_of, IsEditor};
+ghost use Rattle.psg_session.specs.Outcomes.{IfFound, IsOutcome};
+ghost use Rattle.psg_session.specs.Reached.{HasReached, IsFragmentAnswer};
+ghost use Rattle.psg_session.specs.Sessions.{state_of, IsEditor};
+ghost use Rattle.psg_session.specs.Stops.{IfMemory};
 ghost use Rattle.psg_session.specs.Views.{IsLanguage};
 
-use crate::editor::{Editor, Outcome, step};
+use crate::editor::{Editor, Outcome};
 use crate::refusal::Refusal;
 use crate::replies::Reply;
 use crate::saved::{is_full, saved_named, with_saved};
+use crate::stop::Stop;
 use psg_grammar::{MOST_ELEMENTS, MOST_NODES};
-use psg_library::{KeptFault, SavedFragment, fragment_bytes, read_fragment};
-use psg_script::Command;
+use psg_library::{SavedFragment, fragment_bytes, read_fragment};
 use psg_specimen::LanguageParts;
 use psg_terms::{Steps, Txt};
 use psg_tree::{Tree, longest_list, nodes};
-use psg_unparse::Printed;
 use psg_world::{Files, ReadStop, WriteStop};
 use std::alloc::{AllocError, Global};
 use std::sync::ledger::Ledger;
@@ -57,22 +51,22 @@ pub fn keep<F: Files>(
     name: &Txt,
     file: &Txt,
     files: &mut F,
-) -> Result<Outcome, AllocError>
+) -> Result<Outcome, Stop>
     requires language { IsLanguage language.now }
     requires editor { IsEditor language.now.definition editor.now }
-    ensures reached { (count : ℕ) → IfOk result (HasReached language.now.definition editor.now
+    ensures reached { (count : ℕ) → IfFound result (HasReached language.now.definition editor.now
         (commands.Keep name.now file.now)
         (record { held = F.holds files.old; entries = F.faults files.old })
         (record { held = F.holds files.new; entries = F.faults files.new })
         count count) }
-    ensures stopped { (count : ℕ) → IfErr result (λ _. HasStopped language.now.definition (state_of editor.now)
+    ensures stopped { (count : ℕ) → IfMemory result (HasStopped language.now.definition (state_of editor.now)
         (commands.Keep name.now file.now)
         (record { held = F.holds files.old; entries = F.faults files.old })
         (record { held = F.holds files.new; entries = F.faults files.new })
         count count) }
 {
     let Some(saved) = saved_named(editor.saved.as_slice(), name) else {
-        return Ok(Outcome::Stays(Reply::Refused(Refusal::NoFragment)));
+        return Err(Stop::Refused(Refusal::NoFragment));
     };
     let definition = &language.definition;
     let own_name = saved.name.as_str();
@@ -81,13 +75,13 @@ pub fn keep<F: Files>(
     let lines = named_line(alloc, "kept ", word)?;
     let shown = bytes.as_slice();
     if shown.len() > MOST_KEPT_BYTES {
-        return Ok(Outcome::Stays(Reply::Refused(Refusal::TooBig)));
+        return Err(Stop::Refused(Refusal::TooBig));
     }
     let to = file.as_str();
     match files.write(alloc, to, shown) {
         Ok(()) => Ok(Outcome::Stays(Reply::Answered(lines))),
-        Err(WriteStop::Failed) => Ok(Outcome::Stays(Reply::Refused(Refusal::ShelfFault))),
-        Err(WriteStop::Memory) => Err(AllocError),
+        Err(WriteStop::Failed) => Err(Stop::Refused(Refusal::ShelfFault)),
+        Err(WriteStop::Memory) => Err(Stop::Memory),
     }
 }
 
@@ -109,20 +103,6 @@ fn is_big(tree: &Tree) -> bool
     has_long_list(tree)
 }
 
-/// Gives the refusal of bytes that are not read for this fault.
-fn refusal_of(fault: KeptFault) -> Result<Refusal, AllocError>
-    ensures { IfOk result (λ r. (r ≡ KeptUnreadable) × (fault ≡ faults.Memory → ⊥)) }
-{
-    match fault {
-        KeptFault::Head => Ok(Refusal::KeptUnreadable),
-        KeptFault::Phylum => Ok(Refusal::KeptUnreadable),
-        KeptFault::NoTokens => Ok(Refusal::KeptUnreadable),
-        KeptFault::NoTree => Ok(Refusal::KeptUnreadable),
-        KeptFault::Deep => Ok(Refusal::KeptUnreadable),
-        KeptFault::Memory => Err(AllocError),
-    }
-}
-
 /// Reads the fragment that the bytes of a file keep. It is refused with `KeptUnreadable` where they are too many or
 /// keep none, and with `TooBig` where its tree has too many nodes or elements. It takes a step of the counter for each
 /// token of the text, and fails where memory runs out.
@@ -131,34 +111,27 @@ fn read_kept<L: Ledger>(
     language: &LanguageParts,
     bytes: &[u8],
     steps: &mut Steps<L>,
-) -> Result<Result<SavedFragment, Refusal>, AllocError>
+) -> Result<SavedFragment, Stop>
     requires language { IsLanguage language.now }
-    ensures fragment { IfOk result (IsFragmentAnswer language.now.definition bytes.now) }
+    ensures fragment { IsFragmentAnswer language.now.definition bytes.now result }
     ensures read { MayCount language.now.definition bytes.now steps.old steps.new }
 {
     if bytes.len() > MOST_KEPT_BYTES {
-        return Ok(Err(Refusal::KeptUnreadable));
+        return Err(Stop::Refused(Refusal::KeptUnreadable));
     }
     let definition = &language.definition;
-    let found = read_fragment(
+    let saved = read_fragment(
         alloc,
         definition,
         &language.lexis,
         &language.table,
         bytes,
         steps,
-    );
-    let saved = match found {
-        Ok(saved) => saved,
-        Err(fault) => {
-            let refusal = refusal_of(fault)?;
-            return Ok(Err(refusal));
-        }
-    };
+    )?;
     if is_big(&saved.tree) {
-        return Ok(Err(Refusal::TooBig));
+        return Err(Stop::Refused(Refusal::TooBig));
     }
-    Ok(Ok(saved))
+    Ok(saved)
 }
 
 /// Finds what a fetch does that got these bytes. It is refused as `read_kept` says, and with `ShelfFull` where there is
@@ -169,20 +142,17 @@ fn take_in<L: Ledger>(
     editor: &Editor,
     bytes: &[u8],
     steps: &mut Steps<L>,
-) -> Result<Outcome, AllocError>
+) -> Result<Outcome, Stop>
     requires language { IsLanguage language.now }
     requires editor { IsEditor language.now.definition editor.now }
-    ensures outcome { (file : Name) → IfOk result (IsOutcome language.now.definition editor.now (got bytes.now)
+    ensures outcome { (file : Name) → IfFound result (IsOutcome language.now.definition editor.now (got bytes.now)
         (commands.Fetch file)) }
     ensures read { MayCount language.now.definition bytes.now steps.old steps.new }
 {
-    let saved = match read_kept(alloc, language, bytes, steps)? {
-        Ok(saved) => saved,
-        Err(refusal) => return Ok(Outcome::Stays(Reply::Refused(refusal))),
-    };
+    let saved = read_kept(alloc, language, bytes, steps)?;
     let shelf = editor.saved.as_slice();
     if is_full(shelf, &saved.name) {
-        return Ok(Outcome::Stays(Reply::Refused(Refusal::ShelfFull)));
+        return Err(Stop::Refused(Refusal::ShelfFull));
     }
     let word = saved.name.as_str();
     let lines = named_line(alloc, "fetched ", word)?;
@@ -201,14 +171,14 @@ pub fn fetch<F: Files, L: Ledger>(
     file: &Txt,
     files: &mut F,
     steps: &mut Steps<L>,
-) -> Result<Outcome, AllocError>
+) -> Result<Outcome, Stop>
     requires language { IsLanguage language.now }
     requires editor { IsEditor language.now.definition editor.now }
-    ensures reached { IfOk result (HasReached language.now.definition editor.now (commands.Fetch file.now)
+    ensures reached { IfFound result (HasReached language.now.definition editor.now (commands.Fetch file.now)
         (record { held = F.holds files.old; entries = F.faults files.old })
         (record { held = F.holds files.new; entries = F.faults files.new })
         steps.old steps.new) }
-    ensures stopped { IfErr result (λ _. HasStopped language.now.definition (state_of editor.now)
+    ensures stopped { IfMemory result (HasStopped language.now.definition (state_of editor.now)
         (commands.Fetch file.now)
         (record { held = F.holds files.old; entries = F.faults files.old })
         (record { held = F.holds files.new; entries = F.faults files.new })
@@ -217,83 +187,9 @@ pub fn fetch<F: Files, L: Ledger>(
     let from = file.as_str();
     let bytes = match files.read(alloc, from, MOST_KEPT_BYTES) {
         Ok(bytes) => bytes,
-        Err(ReadStop::Failed) => return Ok(Outcome::Stays(Reply::Refused(Refusal::ShelfFault))),
-        Err(ReadStop::Memory) => return Err(AllocError),
+        Err(ReadStop::Failed) => return Err(Stop::Refused(Refusal::ShelfFault)),
+        Err(ReadStop::Memory) => return Err(Stop::Memory),
     };
     let shown = bytes.as_slice();
-    let outcome = take_in(alloc, language, editor, shown, steps)?;
-    Ok(outcome)
-}
-
-/// Finds what a command does to the editor that asks nothing of the files, whatever these hold.
-fn step_alone<L: Ledger>(
-    alloc: Global,
-    language: &LanguageParts,
-    editor: &Editor,
-    printed: Option<&Printed>,
-    next: &mut Option<Printed>,
-    command: &Command,
-    steps: &mut Steps<L>,
-) -> Result<Outcome, AllocError>
-    requires language { IsLanguage language.now }
-    requires editor { IsEditor language.now.definition editor.now }
-    requires formed { IsFormedState language.now.definition (state_of editor.now) }
-    requires fresh { next.old ≡ None }
-    requires alone { IsReaching command.now → ⊥ }
-    requires printed { IsPrinting command.now
-        → IsPrinted language.now.definition (opened_of editor.now.opened) (option_copied printed) }
-    ensures reached { (outside : Outside) → IfOk result (HasReached language.now.definition editor.now command.now
-        outside outside steps.old steps.new) }
-    ensures next { IfOk result (λ outcome. IsNextText language.now.definition editor.now outcome next.new) }
-    ensures stopped { (outside : Outside) → IfErr result (λ _. HasStopped language.now.definition (state_of editor.now)
-        command.now outside outside steps.old steps.new) }
-{
-    let outcome = step(alloc, language, editor, printed, next, command, steps)?;
-    Ok(outcome)
-}
-
-/// Finds what a command does to the editor. A `keep` writes its file and a `fetch` reads it; no other command asks
-/// anything of the files. `steps` counts evaluations, and the tokens of typed text and of a fetched fragment. It fails
-/// where memory runs out. Where it knows the printed text of the new version, it puts that into `next`.
-#[tactic(auto, using(crate::proofs::Printouts::no_text))]
-pub fn reach<F: Files, L: Ledger>(
-    alloc: Global,
-    language: &LanguageParts,
-    editor: &Editor,
-    printed: Option<&Printed>,
-    next: &mut Option<Printed>,
-    command: &Command,
-    files: &mut F,
-    steps: &mut Steps<L>,
-) -> Result<Outcome, AllocError>
-    requires language { IsLanguage language.now }
-    requires editor { IsEditor language.now.definition editor.now }
-    requires formed { IsFormedState language.now.definition (state_of editor.now) }
-    requires fresh { next.old ≡ None }
-    requires printed { IsPrinting command.now
-        → IsPrinted language.now.definition (opened_of editor.now.opened) (option_copied printed) }
-    ensures reached { IfOk result (HasReached language.now.definition editor.now command.now
-        (record { held = F.holds files.old; entries = F.faults files.old })
-        (record { held = F.holds files.new; entries = F.faults files.new })
-        steps.old steps.new) }
-    ensures next { IfOk result (λ outcome. IsNextText language.now.definition editor.now outcome next.new) }
-    ensures stopped { IfErr result (λ _. HasStopped language.now.definition (state_of editor.now) command.now
-        (record { held = F.holds files.old; entries = F.faults files.old })
-        (record { held = F.holds files.new; entries = F.faults files.new })
-        steps.old steps.new) }
-{
-    match command {
-        Command::Keep { name, file } => {
-            let outcome = keep(alloc, language, editor, name, file, files)?;
-            Ok(outcome)
-        }
-        Command::Fetch { file } => {
-            let outcome = fetch(alloc, language, editor, file, files, steps)?;
-            Ok(outcome)
-        }
-        _ => {
-            let outcome = step_alone(alloc, language, editor, printed, next, command, steps)?;
-            Ok(outcome)
-        }
-    }
+    take_in(alloc, language, editor, shown, steps)
 }

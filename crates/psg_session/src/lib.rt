@@ -8,12 +8,15 @@
 //! What it does at a command is what the plain editor does, which is defined in this crate's specs and knows nothing
 //! but trees: the first of the command's tests that holds refuses it, otherwise it is done.
 //!
-//! A command that reaches the files asks them at its end (`kept`). Each other one is first planned (`changes`, `typed`,
-//! `ranged`), its tree is noted and judged (`noting`, `judging`), and what it does is an outcome that has all memory;
-//! one place (`Editor::settle`) then changes the editor and cannot fail.
+//! A command is looked at in one place (`dispatch`). A question is answered (`printing`, `questions`, `relating`,
+//! `menus`). A change is first planned (`changes`, `pasting`, `typed`, `ranged`), then its tree is noted and judged
+//! (`noting`, `judging`). A command that reaches the files asks them at its end (`kept`). A call that finds no outcome
+//! says why by `Stop`: one of the command's tests refuses it, or memory ran out. An outcome has all memory that it
+//! needs; one place (`Editor::settle`) then changes the editor and cannot fail.
 #![tactic(auto)]
 
 pub mod changes;
+pub mod dispatch;
 pub mod editor;
 pub mod edits;
 pub mod finding;
@@ -36,6 +39,7 @@ mod relating;
 pub mod replies;
 pub mod saved;
 pub mod session;
+pub mod stop;
 pub mod told_laws;
 mod typed;
 mod versions;

@@ -10,8 +10,8 @@ ghost use Rattle.psg_script.specs.declared.command.Command.TheVariants as comman
 ghost use Rattle.psg_session.specs.Answers.{names_line as names_line_of};
 ghost use Rattle.psg_session.specs.Replies.{answered};
 ghost use Rattle.psg_session.specs.Views.{reply_of};
-ghost use Rattle.psg_session.specs.Offering.{IsNamingAnswer, IsOffered, IsSite, IsSuggested};
-ghost use Rattle.psg_session.specs.Outcomes.{IsOutcome};
+ghost use Rattle.psg_session.specs.Offering.{IsNamingAnswer, IsSite};
+ghost use Rattle.psg_session.specs.Outcomes.{IfFound, IsOutcome};
 ghost use Rattle.psg_session.specs.PlainState.{not_asked};
 ghost use Rattle.psg_session.specs.PlainStep.{HasNoPlace};
 ghost use Rattle.psg_session.specs.Refusals.{place_test};
@@ -26,7 +26,8 @@ use crate::gathering::names_in;
 use crate::questions::names_line;
 use crate::refusal::Refusal;
 use crate::replies::Reply;
-use psg_eval::{FocusFault, Frame};
+use crate::stop::Stop;
+use psg_eval::Frame;
 use psg_grammar::{Definition, name_positions, op_named};
 use psg_menu::{names, operators};
 use psg_script::Where;
@@ -59,10 +60,8 @@ fn hole_site(
         return Ok(None);
     };
     let framed = found.held.note.frames(alloc, found.path)?;
-    // the note has frames around each node, so this is never reached
-    let Some(around) = framed else {
-        return Ok(None);
-    };
+    // the note has frames around each node
+    let Some(around) = framed else { unreachable!() };
     Ok(Some(Site { phylum, around }))
 }
 
@@ -87,10 +86,8 @@ fn element_site(
         return Ok(None);
     }
     let framed = found.held.note.element_frames(alloc, found.path, number)?;
-    // the note has frames around each place of a list, so this is never reached
-    let Some(around) = framed else {
-        return Ok(None);
-    };
+    // the note has frames around each place of a list
+    let Some(around) = framed else { unreachable!() };
     let phylum = list.kind.element;
     Ok(Some(Site { phylum, around }))
 }
@@ -167,40 +164,6 @@ fn one_line(alloc: Global, names: &[Txt]) -> Result<Reply, AllocError>
     Ok(Reply::Answered(lines))
 }
 
-/// Gives the reply to a menu.
-fn offered(
-    alloc: Global,
-    definition: &Definition,
-    ops: Result<Vec<u32>, FocusFault>,
-) -> Result<Reply, AllocError>
-    requires { IfOk ops (λ ops. (o : ℕ) → IsIn o ops.items → o < length definition.now.operators) }
-    ensures { IfOk result (IsOffered definition.now ops) }
-{
-    match ops {
-        Ok(ops) => {
-            let names = operator_names(alloc, definition, ops.as_slice())?;
-            let reply = one_line(alloc, names.as_slice())?;
-            Ok(reply)
-        }
-        Err(FocusFault::Wide) => Ok(Reply::Refused(Refusal::TooWide)),
-        Err(FocusFault::Memory) => Err(AllocError),
-    }
-}
-
-/// Gives the reply to a question about names.
-fn suggested(alloc: Global, names: Result<Vec<Txt>, FocusFault>) -> Result<Reply, AllocError>
-    ensures { IfOk result (IsSuggested names) }
-{
-    match names {
-        Ok(names) => {
-            let reply = one_line(alloc, names.as_slice())?;
-            Ok(reply)
-        }
-        Err(FocusFault::Wide) => Ok(Reply::Refused(Refusal::TooWide)),
-        Err(FocusFault::Memory) => Err(AllocError),
-    }
-}
-
 /// Answers which operators may be put at the place, in the definition's order: those with which, under new names and
 /// some literals, the fragment has a legal completion. Each is tried by the nodes above the place, or fewer.
 #[tactic(auto, using(crate::proofs::Ticking::quiet))]
@@ -211,22 +174,19 @@ pub fn menu<L: Ledger>(
     place: &Where,
     number: Option<u32>,
     steps: &mut Steps<L>,
-) -> Result<Outcome, AllocError>
+) -> Result<Outcome, Stop>
     requires language { IsLanguage language.now }
     requires editor { IsEditor language.now.definition editor.now }
-    ensures outcome { IfOk result
+    ensures outcome { IfFound result
         (IsOutcome language.now.definition editor.now not_asked (commands.Menu place.now number)) }
     ensures ticks { HasTicked language.now.definition (state_of editor.now)
         (commands.Menu place.now number) steps.old steps.new }
 {
-    let found = match find(editor, place) {
-        Ok(found) => found,
-        Err(refusal) => return Ok(Outcome::Stays(Reply::Refused(refusal))),
-    };
+    let found = find(editor, place)?;
     let definition = &language.definition;
     let tried = site_of(alloc, definition, found, number)?;
     let Some(site) = tried else {
-        return Ok(Outcome::Stays(Reply::Refused(refusal_at(number))));
+        return Err(Stop::Refused(refusal_at(number)));
     };
     let used = names_in(alloc, found.held.note.tree())?;
     let around = site.around.as_slice();
@@ -238,8 +198,9 @@ pub fn menu<L: Ledger>(
         site.phylum,
         used.as_slice(),
         steps,
-    );
-    let reply = offered(alloc, definition, ops)?;
+    )?;
+    let names = operator_names(alloc, definition, ops.as_slice())?;
+    let reply = one_line(alloc, names.as_slice())?;
     Ok(Outcome::Stays(reply))
 }
 
@@ -273,27 +234,21 @@ pub fn suggest<L: Ledger>(
     number: Option<u32>,
     name: &Txt,
     steps: &mut Steps<L>,
-) -> Result<Outcome, AllocError>
+) -> Result<Outcome, Stop>
     requires language { IsLanguage language.now }
     requires editor { IsEditor language.now.definition editor.now }
-    ensures outcome { IfOk result
+    ensures outcome { IfFound result
         (IsOutcome language.now.definition editor.now not_asked (commands.Names place.now number name.now)) }
     ensures ticks { HasTicked language.now.definition (state_of editor.now)
         (commands.Names place.now number name.now) steps.old steps.new }
 {
-    let found = match find(editor, place) {
-        Ok(found) => found,
-        Err(refusal) => return Ok(Outcome::Stays(Reply::Refused(refusal))),
-    };
+    let found = find(editor, place)?;
     let definition = &language.definition;
     let tried = site_of(alloc, definition, found, number)?;
     let Some(site) = tried else {
-        return Ok(Outcome::Stays(Reply::Refused(refusal_at(number))));
+        return Err(Stop::Refused(refusal_at(number)));
     };
-    let op = match naming(definition, site.phylum, name.as_str()) {
-        Ok(op) => op,
-        Err(refusal) => return Ok(Outcome::Stays(Reply::Refused(refusal))),
-    };
+    let op = naming(definition, site.phylum, name.as_str())?;
     let candidates = names_in(alloc, found.held.note.tree())?;
     let around = site.around.as_slice();
     let kept = names(
@@ -304,7 +259,7 @@ pub fn suggest<L: Ledger>(
         op,
         candidates.as_slice(),
         steps,
-    );
-    let reply = suggested(alloc, kept)?;
+    )?;
+    let reply = one_line(alloc, kept.as_slice())?;
     Ok(Outcome::Stays(reply))
 }

@@ -8,20 +8,21 @@ ghost use Rattle.psg_session.specs.PlainStep.{IsEmptyPlace};
 ghost use Rattle.psg_session.specs.Sessions.{IsEditor};
 ghost use Rattle.psg_session.specs.Views.{IsLanguage};
 
-use crate::changes::{Plan, Proposal, as_list, copied, hole_phylum, kind_of, longer, put};
+use crate::changes::{Proposal, as_list, copied, hole_phylum, kind_of, longer, put};
 use crate::editor::Editor;
 use crate::edits::Edit;
 use crate::finding::{Target, find};
 use crate::judging::Trial;
 use crate::refusal::Refusal;
 use crate::saved::saved_named;
+use crate::stop::Stop;
 use psg_grammar::{Definition, Kind};
 use psg_library::SavedFragment;
 use psg_script::Where;
 use psg_specimen::LanguageParts;
 use psg_terms::Txt;
 use psg_tree::Tree;
-use std::alloc::{AllocError, Global};
+use std::alloc::Global;
 
 /// A saved fragment, and the node to which it is pasted.
 #[derive(Clone, Copy)]
@@ -89,20 +90,14 @@ pub fn paste(
     place: &Where,
     number: Option<u32>,
     name: &Txt,
-) -> Result<Plan, AllocError>
+) -> Result<Proposal, Stop>
     requires language { IsLanguage language.now }
     requires editor { IsEditor language.now.definition editor.now }
-    ensures { IfOk result (IsPlan language.now.definition editor.now (commands.Paste place.now number name.now)) }
+    ensures { IsPlan language.now.definition editor.now (commands.Paste place.now number name.now) result }
 {
     match number {
-        None => {
-            let plan = paste_here(alloc, language, editor, place, name)?;
-            Ok(plan)
-        }
-        Some(number) => {
-            let element = paste_element(alloc, language, editor, place, number, name)?;
-            Ok(element)
-        }
+        None => paste_here(alloc, language, editor, place, name),
+        Some(number) => paste_element(alloc, language, editor, place, number, name),
     }
 }
 
@@ -113,25 +108,22 @@ fn paste_here(
     editor: &Editor,
     place: &Where,
     name: &Txt,
-) -> Result<Plan, AllocError>
+) -> Result<Proposal, Stop>
     requires language { IsLanguage language.now }
     requires editor { IsEditor language.now.definition editor.now }
-    ensures { IfOk result (IsPlan language.now.definition editor.now (commands.Paste place.now None name.now)) }
+    ensures { IsPlan language.now.definition editor.now (commands.Paste place.now None name.now) result }
 {
-    let source = match source_of(editor, place, name) {
-        Ok(source) => source,
-        Err(refusal) => return Ok(Plan::RefusedBy(refusal)),
-    };
+    let source = source_of(editor, place, name)?;
     if !is_empty_place(&language.definition, source.found.node) {
-        return Ok(Plan::RefusedBy(Refusal::NotHole));
+        return Err(Stop::Refused(Refusal::NotHole));
     }
     let kind = kind_of(&language.definition, source.found.node);
     if !is_kind(source.saved.kind, kind) {
-        return Ok(Plan::RefusedBy(Refusal::OtherPhylum));
+        return Err(Stop::Refused(Refusal::OtherPhylum));
     }
     let new = source.saved.tree.share()?;
     let made = put(alloc, Trial::Grows, source.found.path, new)?;
-    Ok(Plan::Makes(made))
+    Ok(made)
 }
 
 /// Plans the saved fragment of the name as a new element before the place of the list.
@@ -142,24 +134,21 @@ fn paste_element(
     place: &Where,
     number: u32,
     name: &Txt,
-) -> Result<Plan, AllocError>
+) -> Result<Proposal, Stop>
     requires language { IsLanguage language.now }
     requires editor { IsEditor language.now.definition editor.now }
-    ensures { IfOk result (IsPlan language.now.definition editor.now
-        (commands.Paste place.now (Some number) name.now)) }
+    ensures { IsPlan language.now.definition editor.now
+        (commands.Paste place.now (Some number) name.now) result }
 {
-    let source = match source_of(editor, place, name) {
-        Ok(source) => source,
-        Err(refusal) => return Ok(Plan::RefusedBy(refusal)),
-    };
+    let source = source_of(editor, place, name)?;
     let Some(list) = as_list(&language.definition, source.found.node) else {
-        return Ok(Plan::RefusedBy(Refusal::NoPlace));
+        return Err(Stop::Refused(Refusal::NoPlace));
     };
     if list.elements < number as usize {
-        return Ok(Plan::RefusedBy(Refusal::NoPlace));
+        return Err(Stop::Refused(Refusal::NoPlace));
     }
     if !is_kind(source.saved.kind, Kind::Phylum(list.kind.element)) {
-        return Ok(Plan::RefusedBy(Refusal::OtherPhylum));
+        return Err(Stop::Refused(Refusal::OtherPhylum));
     }
     let new = source.saved.tree.share()?;
     let at = copied(alloc, source.found.path)?;
@@ -170,9 +159,9 @@ fn paste_element(
         new,
     };
     let trial = Trial::Grows;
-    Ok(Plan::Makes(Proposal {
+    Ok(Proposal {
         trial,
         edit,
         cursor,
-    }))
+    })
 }

@@ -1,5 +1,5 @@
 //! The answers that are read from the printed text of the opened fragment.
-ghost use Rattle.std.specs.Prelude.{◌≡◌, ◌∷◌, ◌++◌, [], ℕ, decimal, IfOk, MatchOption, option_copied, string_bytes};
+ghost use Rattle.std.specs.Prelude.{◌≡◌, ◌∷◌, ◌++◌, [], ℕ, decimal, IfOk, MatchOption, string_bytes};
 ghost use Rattle.std.specs.Bool.{Decides};
 ghost use Rattle.psg_terms.specs.Names.{Name};
 ghost use Rattle.psg_grammar.specs.declared.types.Kind.{Kind as PlainKind};
@@ -9,10 +9,10 @@ ghost use Rattle.psg_cache.specs.Notes.{IsFormed};
 ghost use Rattle.psg_unparse.specs.Layout.{text_of};
 ghost use Rattle.psg_tree.specs.AbstractText.{operator_name as operator_name_of};
 ghost use Rattle.psg_script.specs.declared.command.Command.TheVariants as commands;
-ghost use Rattle.psg_session.specs.Outcomes.{IsOutcome};
+ghost use Rattle.psg_session.specs.Outcomes.{IfFound, IsOutcome};
 ghost use Rattle.psg_session.specs.PlainState.{not_asked};
 ghost use Rattle.psg_session.specs.Printing.{goto_line as goto_line_of, node_words, what_is, HasNoSpan, IsFirstSpan};
-ghost use Rattle.psg_session.specs.Printouts.{IsPrinted};
+ghost use Rattle.psg_session.specs.Printouts.{IsKeptText};
 ghost use Rattle.psg_session.specs.Sessions.{opened_of, IsEditor};
 ghost use Rattle.psg_session.specs.Views.{IsLanguage};
 
@@ -20,8 +20,10 @@ use crate::changes::{copied, kind_of};
 use crate::editor::{Editor, Outcome};
 use crate::finding::find;
 use crate::noting::note_mark;
+use crate::printout::print_for;
 use crate::refusal::Refusal;
 use crate::replies::{Reply, push_path};
+use crate::stop::Stop;
 use itoa::Buffer;
 use psg_grammar::{Definition, kind_name};
 use psg_screen::{View, window};
@@ -37,20 +39,22 @@ pub fn show(
     alloc: Global,
     language: &LanguageParts,
     editor: &Editor,
-    printed: Option<&Printed>,
-) -> Result<Outcome, AllocError>
+    printed: &mut Option<Printed>,
+) -> Result<Outcome, Stop>
     requires language { IsLanguage language.now }
     requires editor { IsEditor language.now.definition editor.now }
-    requires printed { IsPrinted language.now.definition (opened_of editor.now.opened) (option_copied printed) }
-    ensures { IfOk result (IsOutcome language.now.definition editor.now not_asked commands.Show) }
+    requires kept { IsKeptText language.now.definition (opened_of editor.now.opened) printed.old }
+    ensures outcome { IfFound result (IsOutcome language.now.definition editor.now not_asked commands.Show) }
+    ensures kept { IsKeptText language.now.definition (opened_of editor.now.opened) printed.new }
 {
     let Some(held) = &editor.opened else {
-        return Ok(Outcome::Stays(Reply::Refused(Refusal::NothingOpened)));
+        return Err(Stop::Refused(Refusal::NothingOpened));
     };
-    let Some(printed) = printed else {
+    print_for(alloc, &language.definition, editor, printed)?;
+    let Some(whole) = printed.as_ref() else {
         unreachable!()
     };
-    let text = printed.text.share()?;
+    let text = whole.text.share()?;
     let mark = note_mark(alloc, &held.note)?;
     Ok(Outcome::Stays(Reply::Shown(text, mark)))
 }
@@ -60,20 +64,22 @@ pub fn screen(
     alloc: Global,
     language: &LanguageParts,
     editor: &Editor,
-    printed: Option<&Printed>,
+    printed: &mut Option<Printed>,
     view: View,
-) -> Result<Outcome, AllocError>
+) -> Result<Outcome, Stop>
     requires language { IsLanguage language.now }
     requires editor { IsEditor language.now.definition editor.now }
-    requires printed { IsPrinted language.now.definition (opened_of editor.now.opened) (option_copied printed) }
-    ensures { IfOk result (IsOutcome language.now.definition editor.now not_asked
+    requires kept { IsKeptText language.now.definition (opened_of editor.now.opened) printed.old }
+    ensures outcome { IfFound result (IsOutcome language.now.definition editor.now not_asked
         (commands.Screen view.top view.left view.rows view.cols)) }
+    ensures kept { IsKeptText language.now.definition (opened_of editor.now.opened) printed.new }
 {
+    print_for(alloc, &language.definition, editor, printed)?;
     // the text is there where a fragment is opened
-    let Some(printed) = printed else {
-        return Ok(Outcome::Stays(Reply::Refused(Refusal::NothingOpened)));
+    let Some(whole) = printed.as_ref() else {
+        return Err(Stop::Refused(Refusal::NothingOpened));
     };
-    let lines = window(alloc, printed.text.as_str(), view)?;
+    let lines = window(alloc, whole.text.as_str(), view)?;
     Ok(Outcome::Stays(Reply::Seen(lines)))
 }
 
@@ -84,22 +90,22 @@ pub fn go(
     alloc: Global,
     language: &LanguageParts,
     editor: &Editor,
-    printed: Option<&Printed>,
+    printed: &mut Option<Printed>,
     place: &Where,
-) -> Result<Outcome, AllocError>
+) -> Result<Outcome, Stop>
     requires language { IsLanguage language.now }
     requires editor { IsEditor language.now.definition editor.now }
-    requires printed { IsPrinted language.now.definition (opened_of editor.now.opened) (option_copied printed) }
-    ensures { IfOk result (IsOutcome language.now.definition editor.now not_asked (commands.Goto place.now)) }
+    requires kept { IsKeptText language.now.definition (opened_of editor.now.opened) printed.old }
+    ensures outcome { IfFound result (IsOutcome language.now.definition editor.now not_asked
+        (commands.Goto place.now)) }
+    ensures kept { IsKeptText language.now.definition (opened_of editor.now.opened) printed.new }
 {
-    let found = match find(editor, place) {
-        Ok(found) => found,
-        Err(refusal) => return Ok(Outcome::Stays(Reply::Refused(refusal))),
-    };
-    let Some(printed) = printed else {
+    let found = find(editor, place)?;
+    print_for(alloc, &language.definition, editor, printed)?;
+    let Some(whole) = printed.as_ref() else {
         unreachable!()
     };
-    let Some(span) = span_at(printed.spans.as_slice(), found.path.steps()) else {
+    let Some(span) = span_at(whole.spans.as_slice(), found.path.steps()) else {
         unreachable!()
     };
     let line = goto_line(alloc, &language.definition, found.node, span)?;

@@ -1,7 +1,7 @@
 //! The printed text of the opened fragment, which is kept from one command to the next.
-ghost use Rattle.std.specs.Prelude.{◌≡◌, IfOk, IsTrue, None, Some, option_copied};
+ghost use Rattle.std.specs.Prelude.{◌≡◌, IfOk, IsTrue, None, Ok, Some, option_copied};
+ghost use Rattle.std.specs.Prelude.{Result as PlainResult};
 ghost use Rattle.psg_cache.specs.Annotated.{tree_in};
-ghost use Rattle.std.specs.Bool.{Decides};
 ghost use Rattle.psg_grammar.specs.declared.types.Definition.{Definition as PlainDefinition};
 ghost use Rattle.psg_grammar.specs.Sound.{IsSound};
 ghost use Rattle.psg_session.specs.declared.editor.Editor.{Editor as PlainEditor};
@@ -10,53 +10,34 @@ ghost use Rattle.psg_session.specs.Edits.{edited};
 ghost use Rattle.psg_session.specs.Formed.{IsFormedState};
 ghost use Rattle.psg_session.specs.Views.{IsLanguage};
 ghost use Rattle.psg_session.specs.declared.changes.Proposal.{Proposal as PlainMade};
-ghost use Rattle.psg_session.specs.declared.changes.Plan.{Plan as PlainPlan};
-ghost use Rattle.psg_session.specs.declared.changes.Plan.TheVariants.{Makes};
+ghost use Rattle.psg_session.specs.declared.stop.Stop.{Stop as PlainStop};
 ghost use Rattle.psg_session.specs.declared.editor.OpenedTree.{OpenedTree as PlainHeld};
-ghost use Rattle.psg_session.specs.Printouts.{IsKeptText, IsNextText, IsPlannedText, IsPrinted, IsPrinting};
+ghost use Rattle.psg_session.specs.Printouts.{IsKeptText, IsNextText, IsPlannedText, IsPrinted};
 ghost use Rattle.psg_session.specs.Sessions.{opened_of, state_of};
 
-use crate::changes::Plan;
+use crate::changes::Proposal;
 use crate::editor::{Editor, Outcome};
 use crate::edits::Edit;
+use crate::stop::Stop;
 use psg_grammar::Definition;
-use psg_script::Command;
 use psg_specimen::LanguageParts;
 use psg_unparse::{Printed, spliced, unparse};
 use std::alloc::{AllocError, Global};
 
-/// Says whether the command is answered from the printed text.
-fn is_printing(command: &Command) -> bool
-    ensures { Decides result (IsPrinting command.now) }
-{
-    match command {
-        Command::Goto { .. } => true,
-        Command::Range { .. } => true,
-        Command::Show => true,
-        Command::Screen { .. } => true,
-        _ => false,
-    }
-}
-
-/// Prints the opened fragment where the command is answered from its text and no text is kept. It takes time linear in
-/// the text and in the paths of the nodes, and fails where memory runs out.
+/// Prints the opened fragment where no text of it is kept. It takes time linear in the text and in the paths of the
+/// nodes, and fails where memory runs out.
 pub(crate) fn print_for(
     alloc: Global,
     definition: &Definition,
     editor: &Editor,
-    command: &Command,
     printed: &mut Option<Printed>,
 ) -> Result<(), AllocError>
     requires sound { IsSound definition.now }
     requires kept { IsKeptText definition.now (opened_of editor.now.opened) printed.old }
     ensures kept { IsKeptText definition.now (opened_of editor.now.opened) printed.new }
-    ensures printed { IfOk result (λ _. IsPrinting command.now
-        → IsPrinted definition.now (opened_of editor.now.opened) printed.new) }
+    ensures printed { IfOk result (λ _. IsPrinted definition.now (opened_of editor.now.opened) printed.new) }
 {
     if printed.is_some() {
-        return Ok(());
-    }
-    if !is_printing(command) {
         return Ok(());
     }
     let Some(held) = &editor.opened else {
@@ -101,14 +82,14 @@ pub(crate) fn planned_text(
     language: &LanguageParts,
     editor: &Editor,
     printed: Option<&Printed>,
-    plan: &Plan,
+    plan: &Result<Proposal, Stop>,
 ) -> Result<Option<Printed>, AllocError>
     requires language { IsLanguage language.now }
     requires formed { IsFormedState language.now.definition (state_of editor.now) }
     requires printed { IsPrinted language.now.definition (opened_of editor.now.opened) (option_copied printed) }
     ensures { IfOk result (IsPlannedText language.now.definition editor.now plan.now) }
 {
-    let Plan::Makes(made) = plan else {
+    let Ok(made) = plan else {
         return Ok(None);
     };
     let Edit::Put { at, new } = &made.edit else {
@@ -127,9 +108,9 @@ pub(crate) fn planned_text(
 
 /// Puts the text into `next` where the outcome is a new version.
 pub(crate) fn put_next(next: &mut Option<Printed>, outcome: &Outcome, text: Option<Printed>)
-    ensures { (def : PlainDefinition) (editor : PlainEditor) (plan : PlainPlan) → next.old ≡ None
+    ensures { (def : PlainDefinition) (editor : PlainEditor) (plan : PlainResult PlainMade PlainStop) → next.old ≡ None
         → IsPlannedText def editor plan text → IsFit def editor.opened outcome.now
-        → ((held : PlainHeld) (made : PlainMade) → editor.opened ≡ Some held → plan ≡ Makes made
+        → ((held : PlainHeld) (made : PlainMade) → editor.opened ≡ Some held → plan ≡ Ok made
         → IsVersionOf (edited made.edit (tree_in held.note)) outcome.now) → IsNextText def editor outcome.now next.new }
 {
     match outcome {

@@ -7,7 +7,7 @@ ghost use Rattle.psg_scope.specs.Headers.{key_of, keys};
 ghost use Rattle.psg_script.specs.declared.command.Command.TheVariants as commands;
 ghost use Rattle.psg_session.specs.Answers.{entities_text, key_text, space_name, names_line as names_line_of};
 ghost use Rattle.psg_session.specs.Answers.{row_line as row_line_of, rows_lines as rows_lines_of};
-ghost use Rattle.psg_session.specs.Outcomes.{IsOutcome};
+ghost use Rattle.psg_session.specs.Outcomes.{IfFound, IsOutcome};
 ghost use Rattle.psg_session.specs.PlainState.{not_asked};
 ghost use Rattle.psg_session.specs.Sessions.{IsEditor};
 ghost use Rattle.psg_session.specs.Views.{IsLanguage, names_without};
@@ -16,6 +16,7 @@ use crate::editor::{Editor, Outcome};
 use crate::finding::find;
 use crate::refusal::Refusal;
 use crate::replies::Reply;
+use crate::stop::Stop;
 use psg_eval::Summary;
 use psg_grammar::{Definition, Space};
 use psg_scope::NameCol;
@@ -25,13 +26,13 @@ use psg_terms::{Signature, Term, Txt, term_text};
 use std::alloc::{AllocError, Global};
 
 /// Answers with the keys that the opened fragment uses and its outermost region does not declare. It evaluates nothing.
-pub fn free(alloc: Global, language: &LanguageParts, editor: &Editor) -> Result<Outcome, AllocError>
+pub fn free(alloc: Global, language: &LanguageParts, editor: &Editor) -> Result<Outcome, Stop>
     requires language { IsLanguage language.now }
     requires editor { IsEditor language.now.definition editor.now }
-    ensures { IfOk result (IsOutcome language.now.definition editor.now not_asked commands.Free) }
+    ensures { IfFound result (IsOutcome language.now.definition editor.now not_asked commands.Free) }
 {
     let Some(held) = &editor.opened else {
-        return Ok(Outcome::Stays(Reply::Refused(Refusal::NothingOpened)));
+        return Err(Stop::Refused(Refusal::NothingOpened));
     };
     let line = free_line(
         alloc,
@@ -133,18 +134,15 @@ pub fn own(
     language: &LanguageParts,
     editor: &Editor,
     place: &Where,
-) -> Result<Outcome, AllocError>
+) -> Result<Outcome, Stop>
     requires language { IsLanguage language.now }
     requires editor { IsEditor language.now.definition editor.now }
-    ensures { IfOk result (IsOutcome language.now.definition editor.now not_asked (commands.Own place.now)) }
+    ensures { IfFound result (IsOutcome language.now.definition editor.now not_asked (commands.Own place.now)) }
 {
-    let found = match find(editor, place) {
-        Ok(found) => found,
-        Err(refusal) => return Ok(Outcome::Stays(Reply::Refused(refusal))),
-    };
-    // the note has a summary of each node, so this refusal is never reached
+    let found = find(editor, place)?;
+    // the note has a summary of each node
     let Some(summary) = found.held.note.summary(found.path) else {
-        return Ok(Outcome::Stays(Reply::Refused(Refusal::NoNode)));
+        unreachable!()
     };
     let lines = rows_lines(alloc, &language.definition, summary)?;
     Ok(Outcome::Stays(Reply::Answered(lines)))

@@ -1,5 +1,5 @@
 //! Bytes of the printed text, replaced by typed ones.
-ghost use Rattle.std.specs.Prelude.{◌≡◌, ◌≤◌, ◌+◌, ℕ, [], IfOk, None, Option, option_copied};
+ghost use Rattle.std.specs.Prelude.{◌≡◌, ◌≤◌, ◌+◌, ℕ, [], IfOk, IsUtf8, None, Option, option_copied};
 ghost use Rattle.psg_cache.specs.Annotated.{tree_in};
 ghost use Rattle.psg_grammar.specs.Paths.{Path as PlainPath};
 ghost use Rattle.psg_grammar.specs.Printable.{IsPrintable};
@@ -11,22 +11,23 @@ ghost use Rattle.psg_script.specs.declared.command.Command.TheVariants as comman
 ghost use Rattle.psg_session.specs.declared.edits.Edit.TheVariants as edits;
 ghost use Rattle.psg_session.specs.declared.judging.Trial.TheVariants.{Types};
 ghost use Rattle.psg_session.specs.Formed.{IsFormedState};
-ghost use Rattle.psg_session.specs.Outcomes.{proposal_of, IsOutcome, IsPlan, MaySpend};
+ghost use Rattle.psg_session.specs.Outcomes.{proposal_of, IfFound, IsOutcome, IsPlan, MaySpend};
 ghost use Rattle.psg_session.specs.PlainState.{not_asked};
-ghost use Rattle.psg_session.specs.Printouts.{IsNextText, IsPrinted};
-ghost use Rattle.psg_session.specs.RangeAnswers.{IsRangeAnswer, IsRangeRefusal};
+ghost use Rattle.psg_session.specs.Printouts.{IsKeptText, IsNextText, IsPrinted};
+ghost use Rattle.psg_session.specs.RangeAnswers.{IsRangeAnswer};
 ghost use Rattle.psg_session.specs.Sessions.{opened_of, plain, state_of, IsEditor};
 ghost use Rattle.psg_session.specs.Ticks.{HasTicked};
 ghost use Rattle.psg_session.specs.Views.{IsLanguage};
 ghost use Rattle.psg_textedit.specs.Typing.{typing_of};
 ghost use Rattle.psg_unparse.specs.Spans.{printed_of};
 
-use crate::changes::{Plan, Proposal};
+use crate::changes::Proposal;
 use crate::editor::{Editor, OpenedTree, Outcome, carry_out};
 use crate::edits::Edit;
 use crate::judging::Trial;
-use crate::printout::{planned_text, put_next};
+use crate::printout::{planned_text, print_for, put_next};
 use crate::refusal::Refusal;
+use crate::stop::Stop;
 use psg_specimen::LanguageParts;
 use psg_terms::{Steps, Txt};
 use psg_textedit::{Change, Reader, TextFault, Typed, type_over};
@@ -34,19 +35,6 @@ use psg_tree::Path;
 use psg_unparse::Printed;
 use std::alloc::{AllocError, Global};
 use std::sync::ledger::Ledger;
-
-/// Gives the refusal of bytes that are not replaced for this fault.
-fn refusal_of(fault: TextFault) -> Result<Refusal, AllocError>
-    ensures { IfOk result (IsRangeRefusal fault) }
-{
-    match fault {
-        TextFault::NoPlace => Ok(Refusal::NoRange),
-        TextFault::NoTokens => Ok(Refusal::NoTokens),
-        TextFault::NoTree => Ok(Refusal::NoTree),
-        TextFault::Deep => Ok(Refusal::TooDeep),
-        TextFault::Memory => Err(AllocError),
-    }
-}
 
 /// Reads the whole new text of the opened fragment, by the nodes around the bytes that are replaced. It lexes the lines
 /// of these bytes, and takes a step of the counter for each token of the nodes that it reads again.
@@ -106,21 +94,21 @@ fn range<L: Ledger>(
     printed: Option<&Printed>,
     start: u32,
     end: u32,
-    text: &Txt,
+    text: &str,
     steps: &mut Steps<L>,
-) -> Result<Plan, AllocError>
+) -> Result<Proposal, Stop>
     requires language { IsLanguage language.now }
     requires editor { IsEditor language.now.definition editor.now }
     requires formed { IsFormedState language.now.definition (state_of editor.now) }
     requires printed { IsPrinted language.now.definition (opened_of editor.now.opened) (option_copied printed) }
-    ensures plan { IfOk result (IsPlan language.now.definition editor.now (commands.Range start end text.now)) }
+    ensures plan { IsPlan language.now.definition editor.now (commands.Range start end text.now) result }
     ensures ticks { HasTicked language.now.definition (state_of editor.now) (commands.Range start end text.now)
         steps.old steps.new }
-    ensures spends { IfOk result (MaySpend language.now.definition editor.now (commands.Range start end text.now)
-        steps.old steps.new) }
+    ensures spends { MaySpend language.now.definition editor.now (commands.Range start end text.now)
+        steps.old steps.new result }
 {
     let Some(held) = &editor.opened else {
-        return Ok(Plan::RefusedBy(Refusal::NothingOpened));
+        return Err(Stop::Refused(Refusal::NothingOpened));
     };
     let Some(printed) = printed else {
         unreachable!()
@@ -128,19 +116,11 @@ fn range<L: Ledger>(
     let typed = Typed {
         start: start as usize,
         end: end as usize,
-        new: text.as_str(),
+        new: text,
     };
-    let read = read_change(alloc, language, held, printed, &typed, steps);
-    match read {
-        Ok(change) => {
-            let made = put_change(alloc, change)?;
-            Ok(Plan::Makes(made))
-        }
-        Err(fault) => {
-            let refusal = refusal_of(fault)?;
-            Ok(Plan::RefusedBy(refusal))
-        }
-    }
+    let change = read_change(alloc, language, held, printed, &typed, steps)?;
+    let made = put_change(alloc, change)?;
+    Ok(made)
 }
 
 /// Replaces the bytes of the printed text from `start` on and before `end`. The new tree is the only one that the whole
@@ -156,26 +136,31 @@ pub(crate) fn replace_bytes<L: Ledger>(
     alloc: Global,
     language: &LanguageParts,
     editor: &Editor,
-    printed: Option<&Printed>,
+    printed: &mut Option<Printed>,
     next: &mut Option<Printed>,
     start: u32,
     end: u32,
     text: &Txt,
     steps: &mut Steps<L>,
-) -> Result<Outcome, AllocError>
+) -> Result<Outcome, Stop>
     requires language { IsLanguage language.now }
     requires editor { IsEditor language.now.definition editor.now }
     requires formed { IsFormedState language.now.definition (state_of editor.now) }
-    requires printed { IsPrinted language.now.definition (opened_of editor.now.opened) (option_copied printed) }
+    requires kept { IsKeptText language.now.definition (opened_of editor.now.opened) printed.old }
     requires fresh { next.old ≡ None }
-    ensures outcome { IfOk result (IsOutcome language.now.definition editor.now not_asked
+    ensures outcome { IfFound result (IsOutcome language.now.definition editor.now not_asked
         (commands.Range start end text.now)) }
     ensures ticks { HasTicked language.now.definition (state_of editor.now) (commands.Range start end text.now)
         steps.old steps.new }
-    ensures next { IfOk result (λ outcome. IsNextText language.now.definition editor.now outcome next.new) }
+    ensures text { IsUtf8 text.now }
+    ensures kept { IsKeptText language.now.definition (opened_of editor.now.opened) printed.new }
+    ensures next { IfFound result (λ outcome. IsNextText language.now.definition editor.now outcome next.new) }
 {
-    let plan = range(alloc, language, editor, printed, start, end, text, steps)?;
-    let made = planned_text(alloc, language, editor, printed, &plan)?;
+    let new = text.as_str();
+    print_for(alloc, &language.definition, editor, printed)?;
+    let before = printed.as_ref();
+    let plan = range(alloc, language, editor, before, start, end, new, steps);
+    let made = planned_text(alloc, language, editor, before, &plan)?;
     let outcome = carry_out(alloc, language, editor, plan, steps)?;
     put_next(next, &outcome, made);
     Ok(outcome)

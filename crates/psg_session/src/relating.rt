@@ -6,18 +6,16 @@ ghost use Rattle.psg_terms.specs.Terms.{Term as Plain};
 ghost use Rattle.psg_focus.specs.Shown.{rows_of};
 ghost use Rattle.psg_script.specs.declared.command.Command.TheVariants as commands;
 ghost use Rattle.psg_session.specs.Answers.{row_line as row_line_of, rows_lines as rows_lines_of};
-ghost use Rattle.psg_session.specs.Outcomes.{IsOutcome};
+ghost use Rattle.psg_session.specs.Outcomes.{IfFound, IsOutcome};
 ghost use Rattle.psg_session.specs.PlainState.{not_asked};
-ghost use Rattle.psg_session.specs.Relating.{IsRelated};
 ghost use Rattle.psg_session.specs.Sessions.{state_of, IsEditor};
 ghost use Rattle.psg_session.specs.Ticks.{HasTicked};
 ghost use Rattle.psg_session.specs.Views.{IsLanguage};
 
 use crate::editor::{Editor, Outcome};
 use crate::finding::find;
-use crate::refusal::Refusal;
 use crate::replies::Reply;
-use psg_eval::FocusFault;
+use crate::stop::Stop;
 use psg_focus::relation_at;
 use psg_script::Where;
 use psg_specimen::LanguageParts;
@@ -52,25 +50,6 @@ fn terms_lines(alloc: Global, sig: &Signature, terms: &[Term]) -> Result<Vec<Str
     Ok(lines)
 }
 
-/// The reply to a question whose answer was too wide.
-fn answer(
-    alloc: Global,
-    sig: &Signature,
-    shown: Result<Vec<Term>, FocusFault>,
-) -> Result<Reply, AllocError>
-    requires { IfOk shown (λ terms. (t : Plain) → IsIn t terms.items → (s : ℕ) × HasSort sig.now t s) }
-    ensures { IfOk result (IsRelated sig.now shown) }
-{
-    match shown {
-        Ok(terms) => {
-            let lines = terms_lines(alloc, sig, terms.as_slice())?;
-            Ok(Reply::Answered(lines))
-        }
-        Err(FocusFault::Wide) => Ok(Reply::Refused(Refusal::TooWide)),
-        Err(FocusFault::Memory) => Err(AllocError),
-    }
-}
-
 /// Answers with the values that the node at the place may have in the completions of the fragment, each on a line. It
 /// evaluates the nodes above it once more.
 #[tactic(auto, using(crate::proofs::Ticking::quiet))]
@@ -80,30 +59,25 @@ pub fn relation<L: Ledger>(
     editor: &Editor,
     place: &Where,
     steps: &mut Steps<L>,
-) -> Result<Outcome, AllocError>
+) -> Result<Outcome, Stop>
     requires language { IsLanguage language.now }
     requires editor { IsEditor language.now.definition editor.now }
-    ensures outcome { IfOk result
+    ensures outcome { IfFound result
         (IsOutcome language.now.definition editor.now not_asked (commands.Relation place.now)) }
     ensures ticks { HasTicked language.now.definition (state_of editor.now)
         (commands.Relation place.now) steps.old steps.new }
 {
-    let found = match find(editor, place) {
-        Ok(found) => found,
-        Err(refusal) => return Ok(Outcome::Stays(Reply::Refused(refusal))),
-    };
+    let found = find(editor, place)?;
     let note = &found.held.note;
-    // the note has a summary of each node and frames around it, so these refusals are never reached
+    // the note has a summary of each node and frames around it
     let Some(summary) = note.summary(found.path) else {
-        return Ok(Outcome::Stays(Reply::Refused(Refusal::NoNode)));
+        unreachable!()
     };
     let framed = note.frames(alloc, found.path)?;
-    let Some(frames) = framed else {
-        return Ok(Outcome::Stays(Reply::Refused(Refusal::NoNode)));
-    };
+    let Some(frames) = framed else { unreachable!() };
     let definition = &language.definition;
     let around = frames.as_slice();
-    let shown = relation_at(alloc, definition, &language.tables, around, summary, steps);
-    let reply = answer(alloc, &definition.signature, shown)?;
-    Ok(Outcome::Stays(reply))
+    let shown = relation_at(alloc, definition, &language.tables, around, summary, steps)?;
+    let lines = terms_lines(alloc, &definition.signature, shown.as_slice())?;
+    Ok(Outcome::Stays(Reply::Answered(lines)))
 }

@@ -2,7 +2,7 @@
 ghost use Rattle.std.specs.Prelude.{◌≡◌, ◌↔◌, ◌≤◌, ◌++◌, ◌∷◌, [], None, IfOk, IsTrue, bytes_eq, codes, length, map};
 ghost use Rattle.std.specs.Prelude.{option_copied, string_bytes};
 ghost use Rattle.psg_script.specs.declared.command.Command.TheVariants as commands;
-ghost use Rattle.psg_session.specs.Outcomes.{IsOutcome};
+ghost use Rattle.psg_session.specs.Outcomes.{IfFound, IsOutcome};
 ghost use Rattle.psg_session.specs.PlainState.{not_asked};
 ghost use Rattle.psg_session.specs.Sessions.{IsEditor};
 ghost use Rattle.psg_session.specs.Shelf.{most_saved, others as others_of, saved_at, saved_with, IsFull};
@@ -12,7 +12,7 @@ use crate::changes::kind_of;
 use crate::editor::{Editor, Outcome};
 use crate::finding::find;
 use crate::refusal::Refusal;
-use crate::replies::Reply;
+use crate::stop::Stop;
 use psg_library::SavedFragment;
 use psg_script::Where;
 use psg_specimen::LanguageParts;
@@ -118,18 +118,15 @@ pub fn save(
     editor: &Editor,
     name: &Txt,
     place: &Where,
-) -> Result<Outcome, AllocError>
+) -> Result<Outcome, Stop>
     requires language { IsLanguage language.now }
     requires editor { IsEditor language.now.definition editor.now }
-    ensures { IfOk result (IsOutcome language.now.definition editor.now not_asked (commands.Save name.now place.now)) }
+    ensures { IfFound result (IsOutcome language.now.definition editor.now not_asked (commands.Save name.now place.now)) }
 {
-    let found = match find(editor, place) {
-        Ok(found) => found,
-        Err(refusal) => return Ok(Outcome::Stays(Reply::Refused(refusal))),
-    };
+    let found = find(editor, place)?;
     let shelf = editor.saved.as_slice();
     if is_full(shelf, name) {
-        return Ok(Outcome::Stays(Reply::Refused(Refusal::ShelfFull)));
+        return Err(Stop::Refused(Refusal::ShelfFull));
     }
     let kind = kind_of(&language.definition, found.node);
     let own_name = name.share()?;

@@ -15,12 +15,13 @@ ghost use Rattle.psg_session.specs.Sessions.{IsEditor, opened_of, state_of};
 ghost use Rattle.psg_session.specs.Views.{reply_of};
 ghost use Rattle.psg_specimen.specs.Refusal.{IsAccepted};
 
+use crate::dispatch::outcome_of;
 use crate::editor::{Editor, Outcome};
-use crate::kept::reach;
 use crate::measuring::{Extent, extent_of};
-use crate::printout::{keep_for, print_for};
+use crate::printout::keep_for;
 use crate::refusal::Refusal;
 use crate::replies::Reply;
+use crate::stop::Stop;
 use psg_cache::Note;
 use psg_history::History;
 use psg_script::{Command, CommandFault, read_command};
@@ -118,9 +119,8 @@ impl Session {
         ensures memory { IfErr result (λ _. self.new ≡ self.old) }
         ensures language { self.new.language ≡ self.old.language }
     {
-        read_text(command);
         let mut next = None;
-        let outcome = reached(
+        let outcome = found(
             alloc,
             &self.parts.language,
             &self.parts.editor,
@@ -215,9 +215,9 @@ impl Session {
     }
 }
 
-/// Finds what the command does to an editor of the language. A command that is answered from the printed text prints it
-/// where it is not kept. The definition is sound and accepted, as that of each language.
-fn reached<F: Files, L: Ledger>(
+/// Finds what the command does to an editor of the language: one that is refused leaves it as it is. The definition is
+/// sound and accepted, as that of each language.
+fn found<F: Files, L: Ledger>(
     alloc: Global,
     language: &Language,
     editor: &Editor,
@@ -241,23 +241,16 @@ fn reached<F: Files, L: Ledger>(
         steps.old steps.new) }
     ensures sound { IsSound language.now }
     ensures accepted { IsAccepted language.now }
+    ensures text { HasText command.now }
     ensures kept { IsKeptText language.now (opened_of editor.now.opened) printed.new }
     ensures next { IfOk result (λ outcome. IsNextText language.now editor.now outcome next.new) }
 {
-    let definition = language.definition();
-    print_for(alloc, definition, editor, command, printed)?;
     let parts = language.parts();
-    let outcome = reach(
-        alloc,
-        parts,
-        editor,
-        printed.as_ref(),
-        next,
-        command,
-        files,
-        steps,
-    )?;
-    Ok(outcome)
+    match outcome_of(alloc, parts, editor, printed, next, command, files, steps) {
+        Ok(outcome) => Ok(outcome),
+        Err(Stop::Refused(refusal)) => Ok(Outcome::Stays(Reply::Refused(refusal))),
+        Err(Stop::Memory) => Err(AllocError),
+    }
 }
 
 /// Gives the extent of the note's tree in the language.
@@ -268,20 +261,4 @@ fn measured(alloc: Global, language: &Language, note: &Note) -> Result<Extent, A
     let parts = language.parts();
     let extent = extent_of(alloc, parts, note)?;
     Ok(extent)
-}
-
-/// Reads the text that is typed with the command. What it ensures holds of all values of its type, and is known of
-/// those that a program reads.
-fn read_text(command: &Command)
-    ensures { HasText command.now }
-{
-    match command {
-        Command::Over { text, .. } => {
-            let _text = text.as_str();
-        }
-        Command::Range { text, .. } => {
-            let _text = text.as_str();
-        }
-        _ => {}
-    }
 }

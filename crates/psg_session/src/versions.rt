@@ -1,14 +1,14 @@
 //! Steps to the versions of the opened fragment before and after the one that is opened.
 ghost use Rattle.std.specs.Prelude.{IfOk};
 ghost use Rattle.psg_script.specs.declared.command.Command.TheVariants as commands;
-ghost use Rattle.psg_session.specs.Outcomes.{earlier_in, later_in, HasStepped, IsOutcome};
+ghost use Rattle.psg_session.specs.Outcomes.{earlier_in, later_in, HasStepped, IfFound, IsOutcome};
 ghost use Rattle.psg_session.specs.PlainState.{not_asked};
 ghost use Rattle.psg_session.specs.Sessions.{IsEditor};
 
 use crate::editor::{Editor, OpenedTree, Outcome};
 use crate::noting::note_mark;
 use crate::refusal::Refusal;
-use crate::replies::Reply;
+use crate::stop::Stop;
 use psg_history::Undone;
 use psg_specimen::LanguageParts;
 use psg_tree::Path;
@@ -53,15 +53,15 @@ impl Editor {
 /// Finds what `undo` does: the nearest earlier version is opened, and the reply is its mark. It is refused with
 /// `NothingOpened` where nothing is opened, and with `NothingEarlier` where there is no earlier version. It evaluates
 /// nothing, and fails where memory runs out.
-pub fn undo(alloc: Global, language: &LanguageParts, editor: &Editor) -> Result<Outcome, AllocError>
+pub fn undo(alloc: Global, language: &LanguageParts, editor: &Editor) -> Result<Outcome, Stop>
     requires editor { IsEditor language.now.definition editor.now }
-    ensures { IfOk result (IsOutcome language.now.definition editor.now not_asked commands.Undo) }
+    ensures { IfFound result (IsOutcome language.now.definition editor.now not_asked commands.Undo) }
 {
     let Some(_) = &editor.opened else {
-        return Ok(Outcome::Stays(Reply::Refused(Refusal::NothingOpened)));
+        return Err(Stop::Refused(Refusal::NothingOpened));
     };
     let Some(note) = editor.history.nearest_earlier() else {
-        return Ok(Outcome::Stays(Reply::Refused(Refusal::NothingEarlier)));
+        return Err(Stop::Refused(Refusal::NothingEarlier));
     };
     let mark = note_mark(alloc, note)?;
     let cursor = Path::of(alloc, &[])?;
@@ -71,15 +71,15 @@ pub fn undo(alloc: Global, language: &LanguageParts, editor: &Editor) -> Result<
 /// Finds what `redo` does: the nearest later version is opened, and the reply is its mark. It is refused with
 /// `NothingOpened` where nothing is opened, and with `NothingLater` where there is no later version. It evaluates
 /// nothing, and fails where memory runs out.
-pub fn redo(alloc: Global, language: &LanguageParts, editor: &Editor) -> Result<Outcome, AllocError>
+pub fn redo(alloc: Global, language: &LanguageParts, editor: &Editor) -> Result<Outcome, Stop>
     requires editor { IsEditor language.now.definition editor.now }
-    ensures { IfOk result (IsOutcome language.now.definition editor.now not_asked commands.Redo) }
+    ensures { IfFound result (IsOutcome language.now.definition editor.now not_asked commands.Redo) }
 {
     let Some(_) = &editor.opened else {
-        return Ok(Outcome::Stays(Reply::Refused(Refusal::NothingOpened)));
+        return Err(Stop::Refused(Refusal::NothingOpened));
     };
     let Some(note) = editor.history.nearest_later() else {
-        return Ok(Outcome::Stays(Reply::Refused(Refusal::NothingLater)));
+        return Err(Stop::Refused(Refusal::NothingLater));
     };
     let mark = note_mark(alloc, note)?;
     let cursor = Path::of(alloc, &[])?;

@@ -1,8 +1,7 @@
-use Rattle.std.proofs.Common.{◌≡◌, ◌∙◌, ◌++◌, false, ap, sym, arith}
+use Rattle.std.proofs.Common.{◌∙◌, ◌++◌, false, ap, arith}
 use Rattle.psg_grammar.specs.Fragments.{operator}
 use Rattle.psg_tree.specs.Shapes.{height, with_parts, list_of}
 use Rattle.psg_tree.proofs.Heights.{part_in, element_in, op_height, list_height, height-list_of}
-use Rattle.psg_renaming.specs.Occurring.{occurring}
 use Rattle.psg_session.proofs.NameWalks.{list_names, operator_names, parts_gathered}
 use Rattle.psg_session.proofs.gathering.+gather.Goals as goal
 

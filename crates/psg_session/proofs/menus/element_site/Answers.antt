@@ -1,4 +1,4 @@
-use Rattle.std.proofs.Common.{inl, inr, refl, subst, arith}
+use Rattle.std.proofs.Common.{inl}
 use Rattle.psg_session.proofs.Offers.{element_frames_are, element_is_site, no_element_frames, site_formed, some_element_frames}
 use Rattle.psg_session.proofs.menus.element_site.Goals as goal
 
@@ -12,13 +12,13 @@ as_list-requires c = record {
 pub returns-in_default : goal.returns-in_default
 returns-in_default c = inl c.in_default.ensures.none
 
-pub returns-in_default-framed : goal.returns-in_default-framed
-returns-in_default-framed c =
+pub unreachable-requires : goal.unreachable-requires
+unreachable-requires c =
     let f = c.args.found in
     let l = c.in-Some.list in
-    absurd (some_element_frames c.args.definition.now c.requires.version.0 f.held.now.note c.requires.version.1 f.path.now f.node.now c.requires.node
+    some_element_frames c.args.definition.now c.requires.version.0 f.held.now.note c.requires.version.1 f.path.now f.node.now c.requires.node
     c.args.number l c.in-Some.ensures.some c.if-list-number.false
-    (no_element_frames f.held.now.note f.path.now c.args.number c.in_ok-framed.framed c.in_default-framed.is c.in_ok-framed.ensures))
+    (no_element_frames f.held.now.note f.path.now c.args.number c.in_ok-framed.framed c.in_default-framed.is c.in_ok-framed.ensures)
 
 pub returns : goal.returns
 returns c =

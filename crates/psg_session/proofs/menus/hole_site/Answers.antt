@@ -3,11 +3,11 @@ use Rattle.psg_session.proofs.Offers.{hole_is_site, some_frames}
 use Rattle.psg_session.proofs.RelationLaws.{frames_are, no_frames}
 use Rattle.psg_session.proofs.menus.hole_site.Goals as goal
 
-pub returns-in_default-framed : goal.returns-in_default-framed
-returns-in_default-framed c =
+pub unreachable-requires : goal.unreachable-requires
+unreachable-requires c =
     let f = c.args.found in
-    absurd (some_frames c.args.definition.now c.requires.version.0 f.held.now.note c.requires.version.1 f.path.now f.node.now c.requires.node
-    (no_frames f.held.now.note f.path.now c.in_ok-framed.framed c.in_default-framed.is c.in_ok-framed.ensures))
+    some_frames c.args.definition.now c.requires.version.0 f.held.now.note c.requires.version.1 f.path.now f.node.now c.requires.node
+    (no_frames f.held.now.note f.path.now c.in_ok-framed.framed c.in_default-framed.is c.in_ok-framed.ensures)
 
 pub returns : goal.returns
 returns c =

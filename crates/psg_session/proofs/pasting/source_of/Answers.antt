@@ -1,4 +1,4 @@
-use Rattle.std.proofs.Common.{inl, inr, refl, sym, ap, ◌∙◌, List, Some}
+use Rattle.std.proofs.Common.{inl, inr, refl, sym, ap, ◌∙◌, List}
 use Rattle.std.specs.Prelude.{option_copied}
 use Rattle.psg_library.specs.declared.fragment.SavedFragment.{SavedFragment as Saved}
 use Rattle.psg_session.specs.Shelf.{saved_at}

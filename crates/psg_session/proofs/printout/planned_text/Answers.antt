@@ -41,7 +41,7 @@ spliced-requires-clause-cuts c =
 
 pub returns : goal.returns
 returns c =
-    planned_by c.args.language.now.definition c.args.editor.now c.args.plan.now c.in-Some.held c.in-Makes.made
-    c.in-Put.at c.in-Put.new c.in_ok-text.text c.in-Some.is c.in-Makes.is c.in-Put.is
+    planned_by c.args.language.now.definition c.args.editor.now c.args.plan.now c.in-Some.held c.in-Ok.made
+    c.in-Put.at c.in-Put.new c.in_ok-text.text c.in-Some.is c.in-Ok.is c.in-Put.is
     (subst (λ f. MatchOption c.in_ok-text.text (IsSpliceable c.args.language.now.definition f c.in-Put.at c.in-Put.new → ⊥)
     (IsSplicing c.args.language.now.definition f c.in-Put.at c.in-Put.new)) c.tree-tree.ensures c.in_ok-text.ensures)

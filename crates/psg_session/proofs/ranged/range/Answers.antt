@@ -1,16 +1,16 @@
-use Rattle.std.proofs.Common.{◌≤◌, ◌+◌, ℕ, Option, Err, Ok, refl, sym, ap, subst}
+use Rattle.std.proofs.Common.{refl, sym, ap, subst}
 use Rattle.std.specs.Option.{option_copied}
-use Rattle.psg_grammar.specs.Paths.{Path}
-use Rattle.psg_cache.specs.Annotated.{tree_in}
-use Rattle.psg_textedit.specs.Regions.{IsReading}
 use Rattle.psg_script.specs.declared.command.Command.TheVariants.{Range}
-use Rattle.psg_session.specs.Outcomes.{IsProposal}
-use Rattle.psg_session.specs.RangeAnswers.{HasChange, IsRangeAnswer}
+use Rattle.psg_session.specs.Outcomes.{IsPlan, IsProposal, MaySpend}
+use Rattle.psg_session.specs.RangeAnswers.{HasChange}
 use Rattle.psg_session.specs.Ranged.{replacing}
 use Rattle.psg_session.specs.Sessions.{plain}
 use Rattle.psg_session.proofs.ChangeRange.{held_formed, held_printable, held_shallow, range_made, range_refused, range_refused_spends, range_spends, range_ticks, range_unopened, range_unread}
 use Rattle.psg_session.proofs.Printouts.{is_printed, never_none}
 use Rattle.psg_session.proofs.Options.{only_none}
+use Rattle.psg_session.proofs.Stopping.{passed}
+use Rattle.psg_session.specs.declared.stop.Stop.TheVariants as stops
+use Rattle.psg_session.specs.Stops.{stop_of_text}
 use Rattle.psg_session.proofs.ranged.range.Goals as goal
 
 pub returns-in_default-clause-plan : goal.returns-in_default-clause-plan
@@ -32,100 +32,91 @@ unreachable-requires g c =
     never_none c.args.language.now.definition c.args.editor.now c.in-Some.held c.in-Some.is
     (option_copied c.args.printed) c.requires.printed (ap option_copied c.in_default-printed.is)
 
-pub read_change-read-requires-clause-printed : goal.read_change-read-requires-clause-printed
-read_change-read-requires-clause-printed g c =
+pub read_change-requires-clause-printed : goal.read_change-requires-clause-printed
+read_change-requires-clause-printed g c =
     is_printed c.args.language.now.definition c.args.editor.now c.in-Some.held c.in-Some.is
     (option_copied c.args.printed) c.requires.printed c.in-Some-printed.printed.now
     (ap option_copied c.in-Some-printed.is)
 
-pub read_change-read-requires-clause-formed : goal.read_change-read-requires-clause-formed
-read_change-read-requires-clause-formed g c =
+pub read_change-requires-clause-formed : goal.read_change-requires-clause-formed
+read_change-requires-clause-formed g c =
     held_formed c.args.language.now.definition c.args.editor.now c.args.start c.args.end c.args.text.now c.in-Some.held
     c.in-Some.is c.requires.editor c.requires.formed
 
-pub read_change-read-requires-clause-printable : goal.read_change-read-requires-clause-printable
-read_change-read-requires-clause-printable g c =
+pub read_change-requires-clause-printable : goal.read_change-requires-clause-printable
+read_change-requires-clause-printable g c =
     held_printable c.args.language.now.definition c.args.editor.now c.args.start c.args.end c.args.text.now c.in-Some.held
     c.in-Some.is c.requires.editor c.requires.formed
 
-pub read_change-read-requires-clause-shallow : goal.read_change-read-requires-clause-shallow
-read_change-read-requires-clause-shallow g c =
+pub read_change-requires-clause-shallow : goal.read_change-requires-clause-shallow
+read_change-requires-clause-shallow g c =
     held_shallow c.args.language.now.definition c.args.editor.now c.args.start c.args.end c.args.text.now c.in-Some.held
     c.in-Some.is c.requires.editor c.requires.formed
 
-pub returns-in_ok-made-in-Ok-clause-plan : goal.returns-in_ok-made-in-Ok-clause-plan
-returns-in_ok-made-in-Ok-clause-plan g c =
+pub returns-clause-plan : goal.returns-clause-plan
+returns-clause-plan g c =
     let def = c.args.language.now.definition in
-    let change : HasChange def (replacing c.args.start c.args.end c.args.text.now) (plain c.in-Some.held) c.in-Ok.change =
-    subst (λ t. IsRangeAnswer def (replacing c.args.start c.args.end t) (plain c.in-Some.held) (Ok c.in-Ok.change))
-    c.as_str.ensures
-    (subst (IsRangeAnswer def (replacing c.args.start c.args.end c.as_str.result.now) (plain c.in-Some.held)) c.in-Ok.is
-    c.read_change-read.ensures.answer) in
-    subst (IsProposal def c.args.editor.now (Range c.args.start c.args.end c.args.text.now)) (sym c.in_ok-made-in-Ok.ensures)
+    let change : HasChange def (replacing c.args.start c.args.end c.args.text.now) (plain c.in-Some.held) c.in_ok-change.change =
+    c.in_ok-change.ensures.answer in
+    subst (IsProposal def c.args.editor.now (Range c.args.start c.args.end c.args.text.now)) (sym c.in_ok-made.ensures)
     (range_made def c.args.editor.now c.args.start c.args.end c.args.text.now c.in-Some.held c.in-Some.is
-    c.requires.language.accepted.of_class c.in-Ok.change change)
+    c.requires.language.accepted.of_class c.in_ok-change.change change)
 
-pub returns-in_ok-made-in-Ok-clause-ticks : goal.returns-in_ok-made-in-Ok-clause-ticks
-returns-in_ok-made-in-Ok-clause-ticks g c =
-    range_ticks c.args.language.now.definition c.args.editor.now c.args.start c.args.end c.args.text.now c.in-Some.held
-    c.in-Some.is _ _
-    (subst (λ t. (found : Option Path) (n : ℕ) → IsReading c.args.language.now.definition (tree_in c.in-Some.held.note)
-    (replacing c.args.start c.args.end t) found n → c.read_change-read.new.steps ≤ c.args.steps.now + n)
-    c.as_str.ensures c.read_change-read.ensures.ticks)
-
-pub returns-in_ok-made-in-Ok-clause-spends : goal.returns-in_ok-made-in-Ok-clause-spends
-returns-in_ok-made-in-Ok-clause-spends g c =
+pub returns-clause-ticks : goal.returns-clause-ticks
+returns-clause-ticks g c =
     let def = c.args.language.now.definition in
-    let change : HasChange def (replacing c.args.start c.args.end c.args.text.now) (plain c.in-Some.held) c.in-Ok.change =
-    subst (λ t. IsRangeAnswer def (replacing c.args.start c.args.end t) (plain c.in-Some.held) (Ok c.in-Ok.change))
-    c.as_str.ensures
-    (subst (IsRangeAnswer def (replacing c.args.start c.args.end c.as_str.result.now) (plain c.in-Some.held)) c.in-Ok.is
-    c.read_change-read.ensures.answer) in
+    range_ticks def c.args.editor.now c.args.start c.args.end c.args.text.now c.in-Some.held
+    c.in-Some.is _ _
+    c.in_ok-change.ensures.ticks
+
+pub returns-clause-spends : goal.returns-clause-spends
+returns-clause-spends g c =
+    let def = c.args.language.now.definition in
+    let change : HasChange def (replacing c.args.start c.args.end c.args.text.now) (plain c.in-Some.held) c.in_ok-change.change =
+    c.in_ok-change.ensures.answer in
     range_spends def c.args.editor.now c.args.start c.args.end c.args.text.now c.in-Some.held c.in-Some.is
-    c.requires.language.accepted.of_class c.in-Ok.change change c.in_ok-made-in-Ok.made c.in_ok-made-in-Ok.ensures _ _
-    (subst (λ t. (found : Option Path) (n : ℕ) → IsReading def (tree_in c.in-Some.held.note)
-    (replacing c.args.start c.args.end t) found n → c.read_change-read.new.steps ≤ c.args.steps.now + n)
-    c.as_str.ensures c.read_change-read.ensures.ticks)
+    c.requires.language.accepted.of_class c.in_ok-change.change change c.in_ok-made.made c.in_ok-made.ensures _ _
+    c.in_ok-change.ensures.ticks
 
-pub returns-in_err-made-in-Ok-clause-ticks : goal.returns-in_err-made-in-Ok-clause-ticks
-returns-in_err-made-in-Ok-clause-ticks g c =
-    range_ticks c.args.language.now.definition c.args.editor.now c.args.start c.args.end c.args.text.now c.in-Some.held
-    c.in-Some.is _ _
-    (subst (λ t. (found : Option Path) (n : ℕ) → IsReading c.args.language.now.definition (tree_in c.in-Some.held.note)
-    (replacing c.args.start c.args.end t) found n → c.read_change-read.new.steps ≤ c.args.steps.now + n)
-    c.as_str.ensures c.read_change-read.ensures.ticks)
-
-pub returns-in_ok-refusal-in-Err-clause-plan : goal.returns-in_ok-refusal-in-Err-clause-plan
-returns-in_ok-refusal-in-Err-clause-plan g c =
+pub returns-in_err-made-clause-ticks : goal.returns-in_err-made-clause-ticks
+returns-in_err-made-clause-ticks g c =
     let def = c.args.language.now.definition in
-    range_refused def c.args.editor.now c.args.start c.args.end c.args.text.now c.in-Some.held c.in-Some.is c.in-Err.fault
-    c.in_ok-refusal-in-Err.refusal c.in_ok-refusal-in-Err.ensures
-    (subst (λ t. IsRangeAnswer def (replacing c.args.start c.args.end t) (plain c.in-Some.held) (Err c.in-Err.fault))
-    c.as_str.ensures
-    (subst (IsRangeAnswer def (replacing c.args.start c.args.end c.as_str.result.now) (plain c.in-Some.held)) c.in-Err.is
-    c.read_change-read.ensures.answer))
-
-pub returns-in_ok-refusal-in-Err-clause-ticks : goal.returns-in_ok-refusal-in-Err-clause-ticks
-returns-in_ok-refusal-in-Err-clause-ticks g c =
-    range_ticks c.args.language.now.definition c.args.editor.now c.args.start c.args.end c.args.text.now c.in-Some.held
+    range_ticks def c.args.editor.now c.args.start c.args.end c.args.text.now c.in-Some.held
     c.in-Some.is _ _
-    (subst (λ t. (found : Option Path) (n : ℕ) → IsReading c.args.language.now.definition (tree_in c.in-Some.held.note)
-    (replacing c.args.start c.args.end t) found n → c.read_change-read.new.steps ≤ c.args.steps.now + n)
-    c.as_str.ensures c.read_change-read.ensures.ticks)
+    c.in_ok-change.ensures.ticks
 
-pub returns-in_ok-refusal-in-Err-clause-spends : goal.returns-in_ok-refusal-in-Err-clause-spends
-returns-in_ok-refusal-in-Err-clause-spends g c =
-    range_refused_spends c.args.language.now.definition c.args.editor.now c.args.start c.args.end c.args.text.now _ _ _
-    (range_ticks c.args.language.now.definition c.args.editor.now c.args.start c.args.end c.args.text.now c.in-Some.held
+pub returns-in_err-made-clause-spends : goal.returns-in_err-made-clause-spends
+returns-in_err-made-clause-spends g c =
+    let def = c.args.language.now.definition in
+    passed (MaySpend def c.args.editor.now (Range c.args.start c.args.end c.args.text.now) c.args.steps.now
+    c.read_change.new.steps) _ stops.Memory c.from_residual-in_err-made.ensures.1
+    (range_refused_spends def c.args.editor.now c.args.start c.args.end c.args.text.now stops.Memory _ _
+    (range_ticks def c.args.editor.now c.args.start c.args.end c.args.text.now c.in-Some.held
     c.in-Some.is _ _
-    (subst (λ t. (found : Option Path) (n : ℕ) → IsReading c.args.language.now.definition (tree_in c.in-Some.held.note)
-    (replacing c.args.start c.args.end t) found n → c.read_change-read.new.steps ≤ c.args.steps.now + n)
-    c.as_str.ensures c.read_change-read.ensures.ticks))
+    c.in_ok-change.ensures.ticks))
 
-pub returns-in_err-refusal-in-Err-clause-ticks : goal.returns-in_err-refusal-in-Err-clause-ticks
-returns-in_err-refusal-in-Err-clause-ticks g c =
-    range_ticks c.args.language.now.definition c.args.editor.now c.args.start c.args.end c.args.text.now c.in-Some.held
+pub returns-in_err-change-clause-plan : goal.returns-in_err-change-clause-plan
+returns-in_err-change-clause-plan g c =
+    let def = c.args.language.now.definition in
+    passed (IsPlan def c.args.editor.now (Range c.args.start c.args.end c.args.text.now)) _
+    (stop_of_text c.in_err-change.field-0.0) c.from_residual.ensures.1
+    (range_refused def c.args.editor.now c.args.start c.args.end c.args.text.now c.in-Some.held c.in-Some.is
+    c.in_err-change.field-0.0
+    (c.in_err-change.ensures.answer))
+
+pub returns-in_err-change-clause-ticks : goal.returns-in_err-change-clause-ticks
+returns-in_err-change-clause-ticks g c =
+    let def = c.args.language.now.definition in
+    range_ticks def c.args.editor.now c.args.start c.args.end c.args.text.now c.in-Some.held
     c.in-Some.is _ _
-    (subst (λ t. (found : Option Path) (n : ℕ) → IsReading c.args.language.now.definition (tree_in c.in-Some.held.note)
-    (replacing c.args.start c.args.end t) found n → c.read_change-read.new.steps ≤ c.args.steps.now + n)
-    c.as_str.ensures c.read_change-read.ensures.ticks)
+    c.in_err-change.ensures.ticks
+
+pub returns-in_err-change-clause-spends : goal.returns-in_err-change-clause-spends
+returns-in_err-change-clause-spends g c =
+    let def = c.args.language.now.definition in
+    passed (MaySpend def c.args.editor.now (Range c.args.start c.args.end c.args.text.now) c.args.steps.now
+    c.read_change.new.steps) _ (stop_of_text c.in_err-change.field-0.0) c.from_residual.ensures.1
+    (range_refused_spends def c.args.editor.now c.args.start c.args.end c.args.text.now (stop_of_text c.in_err-change.field-0.0) _ _
+    (range_ticks def c.args.editor.now c.args.start c.args.end c.args.text.now c.in-Some.held
+    c.in-Some.is _ _
+    c.in_err-change.ensures.ticks))

@@ -1,0 +1,22 @@
+use Rattle.std.proofs.Common.{subst}
+use Rattle.psg_grammar.specs.Sound.{IsSound}
+use Rattle.psg_specimen.specs.Refusal.{IsAccepted}
+use Rattle.psg_session.proofs.session.found.Goals as goal
+
+pub returns-in-Ok-clause-sound : goal.returns-in-Ok-clause-sound
+returns-in-Ok-clause-sound g c = subst IsSound c.parts-parts.ensures.definition c.parts-parts.ensures.parts.sound
+
+pub returns-in-Ok-clause-accepted : goal.returns-in-Ok-clause-accepted
+returns-in-Ok-clause-accepted g c = subst IsAccepted c.parts-parts.ensures.definition c.parts-parts.ensures.parts.accepted
+
+pub returns-in-Err-Refused-clause-sound : goal.returns-in-Err-Refused-clause-sound
+returns-in-Err-Refused-clause-sound g c = subst IsSound c.parts-parts.ensures.definition c.parts-parts.ensures.parts.sound
+
+pub returns-in-Err-Refused-clause-accepted : goal.returns-in-Err-Refused-clause-accepted
+returns-in-Err-Refused-clause-accepted g c = subst IsAccepted c.parts-parts.ensures.definition c.parts-parts.ensures.parts.accepted
+
+pub returns-in-Err-Memory-clause-sound : goal.returns-in-Err-Memory-clause-sound
+returns-in-Err-Memory-clause-sound g c = subst IsSound c.parts-parts.ensures.definition c.parts-parts.ensures.parts.sound
+
+pub returns-in-Err-Memory-clause-accepted : goal.returns-in-Err-Memory-clause-accepted
+returns-in-Err-Memory-clause-accepted g c = subst IsAccepted c.parts-parts.ensures.definition c.parts-parts.ensures.parts.accepted
