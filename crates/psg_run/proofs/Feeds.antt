@@ -4,7 +4,7 @@ use Rattle.std.specs.List.{slice_split, onto_first, position, position_or_len}
 use Rattle.std.proofs.lemmas.Option.{none-some, cond_some}
 use Rattle.std.proofs.lemmas.Bool.Decides.{nat_tests}
 use Rattle.std.proofs.lemmas.List.Splits.{slice_split_first, slice_split-cons_no}
-use Rattle.psg_run.specs.Output.{is_feed}
+use Rattle.psg_run.specs.Scripts.{is_feed}
 
 none_of_cond : (b : Bool) (m : ℕ) → cond b (Some m) None ≡ None → b ≡ false
 none_of_cond true m e = absurd (none-some m (sym e))

@@ -1,5 +1,5 @@
--- The lines of a made script are those of its bytes, and they ask nothing of the files.
-use Rattle.std.proofs.Common.{◌≡◌, inl, inr, ℕ, ◌-◌, zero, suc, ◌<◌, ◌≤◌, ◌^◌, ◌==◌, nat_lt, Bool, true, false, cond, if◌then◌else◌, List, [], ◌∷◌, ◌++◌, length, take, get_or, true≢false, refl, sym, ◌∙◌, ap, subst, arith, lit<}
+-- The lines of a made script are those of its bytes.
+use Rattle.std.proofs.Common.{◌≡◌, inl, inr, ℕ, ◌-◌, zero, suc, ◌<◌, ◌≤◌, ◌^◌, ◌==◌, nat_lt, Bool, true, false, cond, if◌then◌else◌, List, [], ◌∷◌, ◌++◌, length, take, get_or, true≢false, refl, sym, ◌∙◌, ap, arith, lit<}
 use Rattle.std.specs.Prelude.{codes, decimal, slice_index}
 use Rattle.std.specs.List.{All, AllByRecursion, flat_map, list_all, slice_split}
 use Rattle.std.specs.Str.Lines.{strip_carriage_return}
@@ -11,24 +11,8 @@ use Rattle.std.proofs.lemmas.List.Splits.{slice_split_at}
 use Rattle.std.proofs.lemmas.List.Sums.{AllPass-from_list_all}
 use Rattle.std.proofs.lemmas.Str.Parse.{digit_from_value}
 use Rattle.std.proofs.lemmas.Bool.{and_from}
-use Rattle.psg_script.specs.declared.command.Command.TheVariants.{Keep, Fetch}
 use Rattle.psg_script.specs.Script.{numbers_down, declare_lines, assign_lines, with_feeds, script_lines as made_lines}
-use Rattle.psg_run.specs.Output.{is_empty, is_feed, kept_lines, script_lines}
-use Rattle.psg_run.specs.Quiet.{AsksNothing}
-
--- ---- what a line asks
-
-first_is_no : (line : List ℕ) (b : ℕ) (rest : List ℕ) → (get_or line 0 0 == b) ≡ false → (b == b) ≡ true → line ≡ b ∷ rest → ⊥
-first_is_no line b rest other same is =
-    true≢false (sym same ∙ sym (ap (λ l. get_or l 0 0 == b) is) ∙ other)
-
--- a line that begins with neither a k nor an f
-pub asks_nothing : (line : List ℕ) → (get_or line 0 0 == 107) ≡ false → (get_or line 0 0 == 102) ≡ false → AsksNothing line
-asks_nothing line no_k no_f def s (Keep name file) asked spells asks =
-    first_is_no line 107 (codes "eep" ++ spells.written.0) no_k refl spells.written.1
-asks_nothing line no_k no_f def s (Fetch file) asked spells asks =
-    first_is_no line 102 (codes "etch" ++ spells.written.0) no_f refl spells.written.1
-asks_nothing line no_k no_f def s _ asked spells asks = asks
+use Rattle.psg_run.specs.Scripts.{is_empty, is_feed, kept_lines, script_lines}
 
 -- ---- bytes
 
@@ -81,11 +65,10 @@ no_return line some plain =
 
 -- ---- lines
 
--- a line that is read back from a script, and asks nothing
+-- a line that is read back from a script
 pub record IsPlain (line : List ℕ) : Type 0 where
   pub some : 0 < length line
   pub plain : list_all is_plain line ≡ true
-  pub quiet : AsksNothing line
 
 split_lines : (lines : List (List ℕ)) → AllByRecursion IsPlain lines
     → slice_split is_feed (with_feeds lines) ≡ lines ++ [] ∷ []
@@ -109,10 +92,6 @@ kept (line ∷ lines) (one, all) =
 read_back : (lines : List (List ℕ)) → AllByRecursion IsPlain lines → script_lines (with_feeds lines) ≡ lines
 read_back lines all = ap kept_lines (split_lines lines all) ∙ kept lines all
 
-all_quiet : (lines : List (List ℕ)) → AllByRecursion IsPlain lines → AllByRecursion AsksNothing lines
-all_quiet [] all = tt
-all_quiet (line ∷ lines) (one, all) = (one.quiet, all_quiet lines all)
-
 -- ---- the made script
 
 all_append : (xs ys : List (List ℕ)) → AllByRecursion IsPlain xs → AllByRecursion IsPlain ys → AllByRecursion IsPlain (xs ++ ys)
@@ -130,47 +109,40 @@ longer : (text more : List ℕ) → 0 < length text → 0 < length (text ++ more
 longer [] more some = absurd (omega (arith, some))
 longer (b ∷ bs) more some = let s : 0 < suc (length (bs ++ more)) = omega arith in s
 
-fixed : (line : List ℕ) → 0 < length line → list_all is_plain line ≡ true → (get_or line 0 0 == 107) ≡ false
-    → (get_or line 0 0 == 102) ≡ false → IsPlain line
-fixed line some plain no_k no_f = record { some = some; plain = plain; quiet = asks_nothing line no_k no_f }
+fixed : (line : List ℕ) → 0 < length line → list_all is_plain line ≡ true → IsPlain line
+fixed line some plain = record { some = some; plain = plain }
 
-numbered : (text : List ℕ) (n : ℕ) → n ≤ 1000 → 0 < length text → list_all is_plain text ≡ true
-    → (get_or (text ++ decimal n) 0 0 == 107) ≡ false → (get_or (text ++ decimal n) 0 0 == 102) ≡ false
-    → IsPlain (text ++ decimal n)
-numbered text n few some plain no_k no_f = record {
-  some = longer text (decimal n) some;
-  plain = with_number text n plain few;
-  quiet = asks_nothing (text ++ decimal n) no_k no_f;
-}
+numbered : (text : List ℕ) (n : ℕ) → n ≤ 1000 → 0 < length text → list_all is_plain text ≡ true → IsPlain (text ++ decimal n)
+numbered text n few some plain = record { some = longer text (decimal n) some; plain = with_number text n plain few }
 
 declares : (i : ℕ) → i ≤ 1000 → AllByRecursion IsPlain (declare_lines i)
 declares i few = (
-  numbered (codes "insert /0 0 vardecl v") i few (lit< tt) refl refl refl,
-  (fixed (codes "refine /0/0/0 tint") (lit< tt) refl refl refl, tt),
+  numbered (codes "insert /0 0 vardecl v") i few (lit< tt) refl,
+  (fixed (codes "refine /0/0/0 tint") (lit< tt) refl, tt),
 )
 
 assigns : (i : ℕ) → i ≤ 1000 → AllByRecursion IsPlain (assign_lines i)
 assigns i few = (
-  numbered (codes "insert /1 0 assign v") i few (lit< tt) refl refl refl,
+  numbered (codes "insert /1 0 assign v") i few (lit< tt) refl,
   (
-    fixed (codes "refine /1/0/0 plus") (lit< tt) refl refl refl,
+    fixed (codes "refine /1/0/0 plus") (lit< tt) refl,
     (
-      numbered (codes "refine /1/0/0/0 ref v") i few (lit< tt) refl refl refl,
-      (numbered (codes "refine /1/0/0/1 num ") i few (lit< tt) refl refl refl, tt),
+      numbered (codes "refine /1/0/0/0 ref v") i few (lit< tt) refl,
+      (numbered (codes "refine /1/0/0/1 num ") i few (lit< tt) refl, tt),
     ),
   ),
 )
 
 made_plain : (n : ℕ) → n ≤ 1000 → AllByRecursion IsPlain (made_lines n)
 made_plain n few = (
-  fixed (codes "new Stat") (lit< tt) refl refl refl,
+  fixed (codes "new Stat") (lit< tt) refl,
   (
-    fixed (codes "refine / block") (lit< tt) refl refl refl,
+    fixed (codes "refine / block") (lit< tt) refl,
     all_append (flat_map declare_lines (numbers_down n)) _ (each_plain declare_lines declares n few) (
-      fixed (codes "close /0") (lit< tt) refl refl refl,
+      fixed (codes "close /0") (lit< tt) refl,
       all_append (flat_map assign_lines (numbers_down n)) _ (each_plain assign_lines assigns n few) (
-        fixed (codes "insert /1 0 while") (lit< tt) refl refl refl,
-        (fixed (codes "menu /1/0/0") (lit< tt) refl refl refl, tt),
+        fixed (codes "insert /1 0 while") (lit< tt) refl,
+        (fixed (codes "menu /1/0/0") (lit< tt) refl, tt),
       ),
     ),
   ),
@@ -179,6 +151,3 @@ made_plain n few = (
 -- the bytes of the script have its lines
 pub made_back : (n : ℕ) → n ≤ 1000 → script_lines (with_feeds (made_lines n)) ≡ made_lines n
 made_back n few = read_back (made_lines n) (made_plain n few)
-
-pub made_quiet : (n : ℕ) → n ≤ 1000 → AllByRecursion AsksNothing (made_lines n)
-made_quiet n few = all_quiet (made_lines n) (made_plain n few)

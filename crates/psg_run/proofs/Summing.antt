@@ -1,34 +1,34 @@
--- The five lines that are said of a session, and how a run ends that says them.
-use Rattle.std.proofs.Common.{◌≡◌, inl, inr, ℕ, ◌<◌, ◌≤◌, List, [], ◌∷◌, ◌++◌, length, take, drop, Option, Some, None, refl, sym, ◌∙◌, ap, subst, append_assoc, append-nil}
+-- The five lines that are told of a session, and how a run ends that tells them.
+use Rattle.std.proofs.Common.{◌≡◌, ℕ, ◌≤◌, List, [], ◌∷◌, ◌++◌, Option, Some, None, refl, sym, ◌∙◌, ap, subst, append_assoc, append-nil}
 use Rattle.std.specs.Prelude.{MatchOption, codes, decimal}
 use Rattle.std.specs.Io.KnownBytes.{append_known}
-use Rattle.std.proofs.lemmas.List.{take-append-drop}
 use Rattle.psg_grammar.specs.declared.types.Definition.{Definition}
 use Rattle.psg_grammar.specs.Legal.{IsCompletable}
 use Rattle.psg_grammar.specs.Marks.{good, Mark}
-use Rattle.psg_langs.specs.declared.named.TheConstants.{MINI}
 use Rattle.psg_script.specs.Script.{script_lines as made_lines, with_feeds}
-use Rattle.psg_session.specs.declared.editor.Editor.{Editor}
+use Rattle.psg_session.specs.declared.editor.Editor.{Editor as Held}
 use Rattle.psg_session.specs.declared.editor.OpenedTree.{OpenedTree}
 use Rattle.psg_session.specs.declared.measuring.Extent.{Extent}
+use Rattle.psg_session.specs.Exchanges.{Outside}
 use Rattle.psg_session.specs.Extents.{IsExtentOf}
 use Rattle.psg_session.specs.Marked.{mark_text}
-use Rattle.psg_session.specs.PlainState.{Opened, not_asked, start}
-use Rattle.psg_session.specs.Replies.{feed_all, marked, reply_text}
+use Rattle.psg_session.specs.PlainState.{Opened, State, start}
+use Rattle.psg_session.specs.Replies.{Reply, answered, feed_all, marked, reply_text}
 use Rattle.psg_session.specs.Sessions.{opened_of, state_of}
 use Rattle.psg_session.specs.Views.{mark_of}
 use Rattle.psg_world.specs.Sinks.{HasRisen, TakesFront}
 use Rattle.psg_world.specs.declared.world.WriteStop.{WriteStop}
 use Rattle.psg_world.specs.declared.world.WriteStop.TheVariants as stops
-use Rattle.psg_run.specs.declared.status.Status.{Status}
 use Rattle.psg_run.specs.declared.status.Status.TheVariants as ends_with
-use Rattle.psg_run.specs.Causes.{HasDefinition, IsAccepted}
-use Rattle.psg_run.specs.Endings.{EndsRefused, by_line, no_memory, write_status}
-use Rattle.psg_run.specs.Generated.{FiveLines, Generated, five_lines, mini, of_nothing, of_opened}
-use Rattle.psg_run.specs.Output.{script_lines}
-use Rattle.psg_run.specs.Promise.{EndsEarly, Generates, GeneratesOn, LeavesFiles, all_told, ended_before, is_refused, no_room, tell_failed, told_in_part}
-use Rattle.psg_run.specs.Spends.{HasSpent}
-use Rattle.psg_run.specs.Worlds.{World, KeepsFiles}
+use Rattle.psg_run.specs.Chain.{Point, Runs, breaks, closes, first_point, is_played}
+use Rattle.psg_run.specs.Editing.{Editor, IsSilent}
+use Rattle.psg_run.specs.Endings.{write_status}
+use Rattle.psg_run.specs.Generated.{FiveLines, Generates, five_lines, no_room_to_tell, of_nothing, of_opened, operators_in, tells}
+use Rattle.psg_run.specs.Playing.{BreaksAmong, point}
+use Rattle.psg_run.specs.Scripts.{script_lines}
+use Rattle.psg_run.specs.Worlds.{Incoming, Puts, World, put_whole}
+use Rattle.psg_run.proofs.Chains.{append_known-nil}
+use Rattle.psg_run.proofs.Onward.{front_put}
 use Rattle.psg_run.proofs.PlainLines.{made_back}
 
 -- ---- the lines
@@ -84,7 +84,7 @@ module _ (def : Definition) (menu : ℕ) where
       (sym is) (of_opened e.nodes e.bytes e.weight (mark_of e.mark) extent)
 
 -- what is written of what was found
-pub summed : (def : Definition) (e : Editor) (found : Option Extent) (menu : ℕ) (text : List ℕ)
+pub summed : (def : Definition) (e : Held) (found : Option Extent) (menu : ℕ) (text : List ℕ)
     → MatchOption found (e.opened ≡ None) (λ x. (old : Opened) × ((state_of e).opened ≡ Some old)
     × IsExtentOf def (IsCompletable def) old.tree x)
     → MatchOption found (text ≡ feed_all (five_lines 0 0 0 0 good))
@@ -102,38 +102,47 @@ lines_of n few bytes script same is = ap script_lines (same ∙ is) ∙ made_bac
 
 -- ---- how the run ends
 
--- the text of the program is no accepted definition
-pub refused_text : (old new : World) (status : Status) (bytes : List ℕ) → bytes ≡ MINI.now → KeepsFiles old new
-    → EndsRefused bytes old.written new.written old.count new.count status → EndsEarly mini old new status
-refused_text old new status bytes same files (no_memory is kept) = no_room is (record { files = files; wrote = kept })
-refused_text old new status bytes same files (by_line line refusal put) = is_refused bytes line same refusal (files, put)
+-- what was put does not change where the lines lead
+pub told_runs : (def : Definition) (number : ℕ) (old mid new : World) → new.files ≡ mid.files → new.input ≡ mid.input → new.ticks ≡ mid.ticks
+    → (s : State) (last : Reply) → Runs Editor (IsSilent def) (point start (answered []) old) (made_lines number) [] (point s last mid)
+    → Runs Editor (IsSilent def) (point start (answered []) old) (made_lines number) [] (point s last new)
+told_runs def number old mid new files input ticks s last runs =
+    subst (λ (p : Point Editor). Runs Editor (IsSilent def) (point start (answered []) old) (made_lines number) [] p)
+    (ap (λ (f : Outside). record { state = record { state = s; reply = last }; files = f; input = mid.input; ticks = mid.ticks }) (sym files)
+    ∙ ap (λ (i : Incoming). record { state = record { state = s; reply = last }; files = new.files; input = i; ticks = mid.ticks }) (sym input)
+    ∙ ap (λ (n : ℕ). record { state = record { state = s; reply = last }; files = new.files; input = new.input; ticks = n }) (sym ticks)) runs
 
-module _ (number : ℕ) (old new : World) (def : Definition) (bytes : List ℕ) (same : bytes ≡ MINI.now)
-    (accepted : IsAccepted bytes def) (held : new.held ≡ old.held) (entries : new.entries ≡ old.entries) where
-  runs : (status : Status) → Generates def number old new status → GeneratesOn mini number old new status
-  runs status ends_so = inr (
-    def,
-    record { bytes = bytes; are = same; accepted = accepted },
-    record { held = held; entries = entries },
-    ends_so,
-  )
+module _ (def : Definition) (number : ℕ) (old new : World) where
+  -- memory ran out among the lines
+  pub broke_off : new.written ≡ old.written → BreaksAmong def (made_lines number) old new → Generates def number old new ends_with.Memory
+  broke_off same b =
+      is_played b.first (b.line ∷ b.rest) [] b.last b.split b.runs
+      (breaks (first_point Editor b.after new) b.breaks
+      (record { files = refl; input = refl; ticks = refl; took = same ∙ sym (append_known-nil old.written) ∙ sym (append_known-nil (append_known old.written [])) }))
 
-  pub broken_before : new.written ≡ old.written
-      → HasSpent def (IsCompletable def) start (made_lines number) [] not_asked old.ticks new.ticks
-      → GeneratesOn mini number old new ends_with.Memory
-  broken_before quiet spent = runs ends_with.Memory (ended_before refl quiet spent)
+  module _ (s : State) (last : Reply) (runs : Runs Editor (IsSilent def) (point start (answered []) old) (made_lines number) [] (point s last new)) where
+    all_lines : made_lines number ≡ made_lines number ++ []
+    all_lines = sym (append-nil (made_lines number))
 
-  module _ (lines : List (List ℕ)) (made : Generated def number old.ticks new.ticks lines) (text : List ℕ)
-      (is : text ≡ feed_all lines) where
-    pub told_all : new.written ≡ append_known old.written text → GeneratesOn mini number old new ends_with.Done
-    told_all put = runs ends_with.Done (all_told refl lines made (put ∙ ap (append_known old.written) is))
+    -- there was no memory for the five lines
+    pub untold : new.written ≡ old.written → Generates def number old new ends_with.Memory
+    untold same =
+        is_played (made_lines number) [] [] (point s last new) all_lines runs
+        (closes (point s last new) [] ends_with.Memory no_room_to_tell
+        (put_whole (record { files = refl; input = refl; ticks = refl; took = same ∙ sym (append_known-nil old.written) ∙ sym (append_known-nil (append_known old.written [])) })))
 
-    pub told_front : (stop : WriteStop) (status : Status) → status ≡ write_status stop
-        → TakesFront old.written text new.written → (stop ≡ stops.Failed → HasRisen old.count new.count)
-        → GeneratesOn mini number old new status
-    told_front stops.Failed status ending (count, less, put) risen =
-        runs status (tell_failed ending lines made (take count text)
-        (drop count text, sym (take-append-drop count text ∙ is)) put (risen refl))
-    told_front stops.Memory status ending (count, less, put) risen =
-        runs status (told_in_part ending lines made (take count text)
-        (drop count text, sym (take-append-drop count text ∙ is)) put)
+    module _ (lines : List (List ℕ)) (five : FiveLines def (IsCompletable def) s.opened (operators_in last) lines) (bytes : List ℕ) (is : bytes ≡ feed_all lines) where
+      pub told_whole : new.written ≡ append_known old.written bytes → Generates def number old new ends_with.Done
+      told_whole put =
+          is_played (made_lines number) [] [] (point s last new) all_lines runs
+          (closes (point s last new) (feed_all lines) ends_with.Done (tells lines five)
+          (put_whole (record { files = refl; input = refl; ticks = refl; took = put ∙ ap (append_known old.written) is ∙ ap (λ w. append_known w (feed_all lines)) (sym (append_known-nil old.written)) })))
+
+      pub told_front : TakesFront old.written bytes new.written → (stop : WriteStop) → (stop ≡ stops.Failed → HasRisen old.count new.count)
+          → Generates def number old new (write_status stop)
+      told_front takes stop risen =
+          is_played (made_lines number) [] [] (point s last new) all_lines runs
+          (closes (point s last new) (feed_all lines) ends_with.Done (tells lines five)
+          (subst (λ b. Puts b ends_with.Done (record { files = new.files; input = new.input; ticks = new.ticks; written = append_known old.written []; count = old.count }) new (write_status stop)) is
+          (front_put bytes ends_with.Done (record { files = new.files; input = new.input; ticks = new.ticks; written = append_known old.written []; count = old.count }) new refl refl refl
+          (subst (λ w. TakesFront w bytes new.written) (sym (append_known-nil old.written)) takes) stop risen)))

@@ -7,12 +7,8 @@ use Rattle.std.specs.declared.alloc.Global.{Global}
 use Rattle.psg_terms.specs.Names.{Name}
 use Rattle.psg_run.specs.declared.status.Status.{Status}
 use Rattle.psg_run.specs.declared.status.Status.TheVariants as ends_with
-use Rattle.psg_run.specs.Causes.{in_file}
-use Rattle.psg_run.specs.Output.{RepliesToAll}
-use Rattle.psg_run.specs.Worlds.{World, Incoming, texts_of}
-use Rattle.psg_run.specs.Generated.{mini}
-use Rattle.psg_run.specs.Promise.{Checks, Edits, Form, GeneratesOn, Lives, check, edit, live, gen, HasNoForm, IsForm, IsRunOf, IsRun, SpentFromStart}
-use Rattle.psg_run.proofs.Completing.{does_run}
+use Rattle.psg_run.specs.Worlds.{World, texts_of}
+use Rattle.psg_run.specs.Promise.{Form, check, edit, live, gen, HasNoForm, IsForm, IsRunOf, IsRun}
 
 pub two_words : (words : List (String Global)) (a b : String Global) → 2 ≤ length words → length words < 3 → a ≡ get_or words 0 a → b ≡ get_or words 1 b
     → texts_of words ≡ string_bytes a ∷ string_bytes b ∷ []
@@ -112,32 +108,29 @@ one_form words (gen n) (gen m) (p, low, high) (q, low', high') =
     (second_is (codes "gen") (codes "gen") (decimal n) (decimal m) (sym p ∙ q)))
 one_form words (live d) (live e) p q = let whole : codes "live" ∷ d ∷ [] ≡ codes "live" ∷ e ∷ [] = sym p ∙ q in cc
 
-module _ (words : List Name) where
-  of_form : (form : Form) (input input' : Incoming) (old new : World) (status : Status) → IsForm words form → IsRunOf form input input' old new status
-      → IsRun words input input' old new status
-  of_form form input input' old new status is ran = does_run words input input' old new status (record {
-    of_form = λ other wanted. subst (λ f. IsRunOf f input input' old new status) (one_form words form other is wanted) ran;
+module _ (words : List Name) (old new : World) (status : Status) where
+  of_form : (form : Form) → IsForm words form → IsRunOf form old new status → IsRun words old new status
+  of_form form is ran = record {
+    of_form = λ other wanted. subst (λ f. IsRunOf f old new status) (one_form words form other is wanted) ran;
     no_form = λ never. absurd (never form is);
-  })
+  }
 
-  pub of_check : (definition : Name) (input : Incoming) (old new : World) (status : Status) → words ≡ codes "check" ∷ definition ∷ []
-      → Checks (in_file definition) old new status → IsRun words input input old new status
-  of_check definition input old new status is ran = of_form (check definition) input input old new status is (ran, refl)
+  pub of_check : (definition : Name) → words ≡ codes "check" ∷ definition ∷ [] → IsRunOf (check definition) old new status → IsRun words old new status
+  of_check definition is ran = of_form (check definition) is ran
 
-  pub of_edit : (definition script : Name) (input : Incoming) (old new : World) (status : Status) → words ≡ codes "edit" ∷ definition ∷ script ∷ []
-      → Edits RepliesToAll SpentFromStart (in_file definition) script old new status → IsRun words input input old new status
-  of_edit definition script input old new status is ran = of_form (edit definition script) input input old new status is (ran, refl)
+  pub of_edit : (definition script : Name) → words ≡ codes "edit" ∷ definition ∷ script ∷ [] → IsRunOf (edit definition script) old new status
+      → IsRun words old new status
+  of_edit definition script is ran = of_form (edit definition script) is ran
 
-  pub of_live : (definition : Name) (input input' : Incoming) (old new : World) (status : Status) → words ≡ codes "live" ∷ definition ∷ []
-      → Lives RepliesToAll SpentFromStart (in_file definition) input input' old new status → IsRun words input input' old new status
-  of_live definition input input' old new status is ran = of_form (live definition) input input' old new status is ran
+  pub of_live : (definition : Name) → words ≡ codes "live" ∷ definition ∷ [] → IsRunOf (live definition) old new status → IsRun words old new status
+  of_live definition is ran = of_form (live definition) is ran
 
-  pub of_gen : (number : ℕ) (input : Incoming) (old new : World) (status : Status) → IsForm words (gen number)
-      → GeneratesOn mini number old new status → IsRun words input input old new status
-  of_gen number input old new status is ran = of_form (gen number) input input old new status is (ran, refl)
+  pub of_gen : (number : ℕ) → IsForm words (gen number) → IsRunOf (gen number) old new status → IsRun words old new status
+  of_gen number is ran = of_form (gen number) is ran
 
-pub of_no_form : (words : List Name) (input : Incoming) (w : World) → HasNoForm words → IsRun words input input w w ends_with.Words
-of_no_form words input w never = does_run words input input w w ends_with.Words (record {
-  of_form = λ form is. absurd (never form is);
-  no_form = λ none. (refl, record { files = record { held = refl; entries = refl; ticks = refl }; wrote = refl }, refl, refl);
-})
+  -- words of a form are not of none
+  pub has_form : (form : Form) → IsForm words form → HasNoForm words → ⊥
+  has_form form is never = never form is
+
+pub of_no_form : (words : List Name) (w : World) → HasNoForm words → IsRun words w w ends_with.Words
+of_no_form words w never = record { of_form = λ form is. absurd (never form is); no_form = λ none. (refl, refl) }

@@ -1,38 +1,71 @@
-//! Laws of the plain editor, as contracts of calls that do nothing.
+//! Laws of the promise of `run`, as contracts of calls that do nothing.
+ghost use Rattle.std.specs.Prelude.{◌≡◌, ℕ, List};
 ghost use Rattle.std.specs.List.{AllByRecursion};
 ghost use Rattle.psg_class.specs.Class.{IsClass};
 ghost use Rattle.psg_grammar.specs.Sound.{IsSound};
-ghost use Rattle.psg_run.specs.OneOutput.{HasOneOutput, HasOneRun};
-ghost use Rattle.psg_grammar.specs.Legal.{IsCompletable};
 ghost use Rattle.psg_grammar.specs.WellFormed.{fixed_words};
+ghost use Rattle.psg_grammar.specs.declared.types.Definition.{Definition as Plain};
 ghost use Rattle.psg_lexis.specs.Tokens.{IsFixedWord};
-ghost use Rattle.psg_run.specs.SomeOutput.{HasSomeOutput};
+ghost use Rattle.psg_run.specs.Outputs.{EndsWell, HasOneOutput, HasOneRun, HasSomeOutput};
+ghost use Rattle.psg_run.specs.Outputs.{KeepsForms, LeavesFiles, RepliesAlike};
+ghost use Rattle.psg_run.specs.Reading.{IsAccepted as IsAcceptedText, IsRefusalLine};
 ghost use Rattle.psg_specimen.specs.Refusal.{IsAccepted};
 
 use psg_grammar::Definition;
 
-/// States that the plain editor gives each script one output, where no text is read as two trees. It does nothing at
-/// run time.
+/// States that the plain editor gives each script one output, where no text is read as two trees. The call has no
+/// cost.
 pub fn one_output(definition: &Definition)
     requires sound { IsSound definition.now }
     requires class { IsClass definition.now }
-    ensures { HasOneOutput definition.now (IsCompletable definition.now) }
+    ensures { HasOneOutput definition.now }
 {}
 
-/// States that two runs of a script on the definition, with status 0 and over the same files, write the same. It does
-/// nothing at run time.
-pub fn one_run(definition: &Definition)
-    requires sound { IsSound definition.now }
-    requires class { IsClass definition.now }
-    ensures { HasOneRun definition.now }
-{}
-
-/// States that no script lacks a whole output, over files that hold anything and do not fail: that there is none is
-/// refuted. With `one_output` there is exactly one, by excluded middle. So what is said of the output of a run speaks
-/// of something. It does nothing at run time.
+/// States that no script lacks an output, whatever the files hold and whichever of their calls fail: that there is none
+/// is refuted. With `one_output` there is exactly one, by excluded middle. So what is said of the output of a run speaks
+/// of something. The call has no cost.
 pub fn some_output(definition: &Definition)
     requires sound { IsSound definition.now }
     requires words { AllByRecursion IsFixedWord (fixed_words definition.now) }
     requires accepted { IsAccepted definition.now }
-    ensures { HasSomeOutput definition.now (IsCompletable definition.now) }
+    ensures { HasSomeOutput definition.now }
+{}
+
+/// States that the trees of all states that a script reaches are printable and of their kinds. The call has no cost.
+pub fn forms_are_kept(definition: &Definition)
+    requires sound { IsSound definition.now }
+    requires accepted { IsAccepted definition.now }
+    ensures { KeepsForms definition.now }
+{}
+
+/// States that bytes are one accepted definition at most, and that bytes which are one have no line that refuses them.
+/// The call has no cost.
+pub fn one_definition()
+    ensures one { (bytes : List ℕ) (def other : Plain) → IsAcceptedText bytes def → IsAcceptedText bytes other
+        → other ≡ def }
+    ensures not_both { (bytes line : List ℕ) (def : Plain) → IsAcceptedText bytes def → IsRefusalLine bytes line → ⊥ }
+{}
+
+/// States that a run for which nothing goes wrong outside ends well, or is out of memory: its definition is accepted,
+/// its files are short, and no read of its own and no put failed. The call has no cost.
+pub fn ends_well()
+    ensures { EndsWell }
+{}
+
+/// States that lines which are read from an input are replied to as those of a script. The call has no cost.
+pub fn live_as_script(definition: &Definition)
+    ensures { RepliesAlike definition.now }
+{}
+
+/// States that `gen` leaves the files as they were, whatever its status is. The call has no cost.
+pub fn gen_leaves_files()
+    ensures { LeavesFiles }
+{}
+
+/// States that two runs of a script on the definition, with status 0 and over files that held the same, write the same
+/// and leave the same files, where no call of the files failed. The call has no cost.
+pub fn one_run(definition: &Definition)
+    requires sound { IsSound definition.now }
+    requires class { IsClass definition.now }
+    ensures { HasOneRun definition.now }
 {}

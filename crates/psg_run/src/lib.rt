@@ -2,7 +2,8 @@
 //!
 //! `run(alloc, &words, &mut files, &mut input, &mut out, &mut steps)` does what the words say. For `check DEF` it says
 //! whether a file has a definition. For `edit DEF SCRIPT` it writes the replies of the plain editor, which is defined
-//! in psg_session's specs and knows nothing but trees. For `live DEF` it writes them to the lines of the input.
+//! in psg_session's specs and knows nothing but trees. For `live DEF` it writes them to the lines of the input. For `gen N` it
+//! says how large a program is that it makes.
 #![tactic(auto)]
 
 mod generating;
@@ -12,6 +13,7 @@ mod lines;
 mod live;
 mod play;
 pub mod program;
+mod silent;
 mod source;
 pub mod status;
 mod words;

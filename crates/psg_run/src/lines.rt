@@ -2,7 +2,8 @@
 ghost use Rattle.std.specs.Prelude.{◌≡◌, ◌++◌, ◌∷◌, [], ◌<◌, length, position};
 ghost use Rattle.std.specs.List.{slice_split};
 ghost use Rattle.std.specs.Str.Lines.{strip_carriage_return};
-ghost use Rattle.psg_run.specs.Output.{is_feed, kept_lines};
+ghost use Rattle.psg_run.specs.Playing.{AreOf};
+ghost use Rattle.psg_run.specs.Scripts.{is_feed, kept_lines};
 
 /// A line, and what is after its line feed.
 #[derive(Drop)]
@@ -40,11 +41,19 @@ pub fn cut_line(bytes: &[u8]) -> Cut<'_>
 }
 
 /// Returns the line less one carriage return at its end.
-pub fn without_return(line: &[u8]) -> &[u8]
+fn without_return(line: &[u8]) -> &[u8]
     ensures { result.now ≡ strip_carriage_return line.now }
 {
     match line {
         [front @ .., b'\r'] => front,
         _ => line,
     }
+}
+
+/// Returns the line that the piece of a script is, less one carriage return at its end; none where it is empty then.
+pub fn kept(piece: &[u8]) -> Option<&[u8]>
+    ensures { AreOf (kept_lines (piece.now ∷ [])) result }
+{
+    let line = without_return(piece);
+    if line.is_empty() { None } else { Some(line) }
 }

@@ -1,77 +1,106 @@
-//! A script played on a new session.
-ghost use Rattle.std.specs.Prelude.{◌≡◌, ◌≤◌, IfErr, OnOk, IsErrOf};
-ghost use Rattle.psg_world.specs.Sinks.{HasRisen};
-ghost use Rattle.psg_run.specs.Output.{script_lines};
-ghost use Rattle.psg_run.specs.Played.{PrintsAll, PrintsFront, PlaysLine, PlaysLineFront};
+//! A script played on a session.
+ghost use Rattle.std.specs.Prelude.{◌≡◌, ◌≤◌, ◌∷◌, [], ℕ, List, OnOk, IfErr};
+ghost use Rattle.psg_run.specs.Editing.{Edits};
+ghost use Rattle.psg_run.specs.Playing.{AreOf, FinishesAt, FinishesIn, PutsLines, PutsReply};
+ghost use Rattle.psg_run.specs.Scripts.{script_lines};
+ghost use Rattle.psg_run.specs.Worlds.{Incoming, seen};
+ghost use Rattle.psg_session.specs.PlainState.{start};
+ghost use Rattle.psg_session.specs.Replies.{Reply as PlainReply};
 ghost use Rattle.psg_session.specs.Sessions.{state_of};
 
-use crate::lines::{cut_line, without_return};
+use crate::lines::{cut_line, kept};
+use crate::source::write_status;
+use crate::status::Status;
 use psg_session::{Session, reply_lines};
-use psg_specimen::Language;
 use psg_terms::Steps;
-use psg_world::{Files, Sink, WriteStop, put_all};
+use psg_world::{Files, Sink, put_all};
 use std::alloc::Global;
 use std::sync::ledger::Ledger;
 
-/// Plays a line on the session, and puts the reply. It fails with `Failed` where the write fails, and with `Memory`
-/// where memory runs out; a front of the reply may be put then.
-pub fn play_line<F: Files, O: Sink, L: Ledger>(
+/// Plays a line on the session, and puts the reply. Otherwise it returns the status with which the run ends: a write
+/// fault, or out of memory. A front of the reply may be put then.
+fn play_line<F: Files, O: Sink, L: Ledger>(
     alloc: Global,
     session: &mut Session,
     line: &[u8],
     files: &mut F,
     out: &mut O,
     steps: &mut Steps<L>,
-) -> Result<(), WriteStop>
-    ensures ok { OnOk result (PlaysLine session.old.language (state_of session.old.editor) line.now
-        (state_of session.new.editor)
-        (record { held = F.holds files.old; entries = F.faults files.old })
-        (record { held = F.holds files.new; entries = F.faults files.new })
-        (O.written out.old) (O.written out.new) steps.old steps.new) }
-    ensures err { IfErr result (PlaysLineFront session.old.language (state_of session.old.editor) line.now
-        (record { held = F.holds files.old; entries = F.faults files.old })
-        (record { held = F.holds files.new; entries = F.faults files.new })
-        (O.written out.old) (O.written out.new) steps.old steps.new) }
+) -> Result<(), Status>
+    ensures ok { OnOk result ((input : Incoming) (before : PlainReply) → PutsReply session.old.language line.now
+        (state_of session.old.editor) (state_of session.new.editor) before
+        (seen (F.holds files.old) (F.faults files.old) input steps.old (O.written out.old) (O.faults out.old))
+        (seen (F.holds files.new) (F.faults files.new) input steps.new (O.written out.new) (O.faults out.new))) }
+    ensures err { IfErr result (λ status. (input : Incoming) (before : PlainReply) (rest : List (List ℕ))
+        → FinishesAt session.old.language (state_of session.old.editor) before (line.now ∷ rest)
+        (seen (F.holds files.old) (F.faults files.old) input steps.old (O.written out.old) (O.faults out.old))
+        (seen (F.holds files.new) (F.faults files.new) input steps.new (O.written out.new) (O.faults out.new)) status) }
     ensures language { session.new.language ≡ session.old.language }
-    ensures failed { IsErrOf result WriteStop.Failed → HasRisen (O.faults out.old) (O.faults out.new) }
     ensures never_falls { O.faults out.old ≤ O.faults out.new }
 {
-    let reply = session.apply_line(alloc, line, files, steps)?;
-    let text = reply_lines(alloc, &reply)?;
-    put_all(alloc, out, text.as_bytes())?;
-    Ok(())
+    let reply = match session.apply_line(alloc, line, files, steps) {
+        Ok(reply) => reply,
+        Err(_) => return Err(Status::Memory),
+    };
+    let Ok(text) = reply_lines(alloc, &reply) else {
+        return Err(Status::Memory);
+    };
+    match put_all(alloc, out, text.as_bytes()) {
+        Ok(()) => Ok(()),
+        Err(stop) => Err(write_status(stop)),
+    }
 }
 
-/// Puts the replies to the lines of the script, those of each line before the next one is looked at. It fails as
-/// `play_line` does, and takes the time of the script and of its commands.
+/// Plays the line, if there is one, and puts the reply. Otherwise it returns the status with which the run ends, as
+/// `play_line` does.
+pub fn play_some<F: Files, O: Sink, L: Ledger>(
+    alloc: Global,
+    session: &mut Session,
+    line: Option<&[u8]>,
+    files: &mut F,
+    out: &mut O,
+    steps: &mut Steps<L>,
+) -> Result<(), Status>
+    ensures ok { OnOk result ((input : Incoming) (before : PlainReply) (lines : List (List ℕ)) → AreOf lines line.entry
+        → PutsLines session.old.language lines (state_of session.old.editor) (state_of session.new.editor) before
+        (seen (F.holds files.old) (F.faults files.old) input steps.old (O.written out.old) (O.faults out.old))
+        (seen (F.holds files.new) (F.faults files.new) input steps.new (O.written out.new) (O.faults out.new))) }
+    ensures err { IfErr result (λ status. (input : Incoming) (before : PlainReply) (lines : List (List ℕ))
+        → AreOf lines line.entry → FinishesIn session.old.language lines (state_of session.old.editor) before
+        (seen (F.holds files.old) (F.faults files.old) input steps.old (O.written out.old) (O.faults out.old))
+        (seen (F.holds files.new) (F.faults files.new) input steps.new (O.written out.new) (O.faults out.new)) status) }
+    ensures language { session.new.language ≡ session.old.language }
+    ensures never_falls { O.faults out.old ≤ O.faults out.new }
+{
+    match line {
+        Some(line) => play_line(alloc, session, line, files, out, steps),
+        None => Ok(()),
+    }
+}
+
+/// Puts the replies to the lines of the script, those of each line before the next one is looked at, and returns how
+/// that ended. It takes the time of the script and of its commands.
 pub fn play<F: Files, O: Sink, L: Ledger>(
     alloc: Global,
-    language: Language,
+    session: &mut Session,
     script: &[u8],
     files: &mut F,
     out: &mut O,
     steps: &mut Steps<L>,
-) -> Result<(), WriteStop>
-    ensures ok { OnOk result (PrintsAll language (script_lines script.now)
-        (record { held = F.holds files.old; entries = F.faults files.old })
-        (record { held = F.holds files.new; entries = F.faults files.new })
-        (O.written out.old) (O.written out.new) steps.old steps.new) }
-    ensures err { IfErr result (PrintsFront language (script_lines script.now)
-        (record { held = F.holds files.old; entries = F.faults files.old })
-        (record { held = F.holds files.new; entries = F.faults files.new })
-        (O.written out.old) (O.written out.new) steps.old steps.new) }
-    ensures failed { IsErrOf result WriteStop.Failed → HasRisen (O.faults out.old) (O.faults out.new) }
-    ensures never_falls { O.faults out.old ≤ O.faults out.new }
+) -> Status
+    requires start { state_of session.old.editor ≡ start }
+    ensures { (input : Incoming) → Edits session.old.language (script_lines script.now)
+        (seen (F.holds files.old) (F.faults files.old) input steps.old (O.written out.old) (O.faults out.old))
+        (seen (F.holds files.new) (F.faults files.new) input steps.new (O.written out.new) (O.faults out.new))
+        result }
 {
-    let mut session = Session::new(alloc, language)?;
     let mut rest = script;
     while !rest.is_empty() {
         let cut = cut_line(rest);
-        let line = without_return(cut.line);
-        if !line.is_empty() {
-            play_line(alloc, &mut session, line, files, out, steps)?;
+        if let Err(status) = play_some(alloc, session, kept(cut.line), files, out, steps) {
+            return status;
         }
         rest = cut.rest;
     }
-    Ok(())
+    Status::Done
 }

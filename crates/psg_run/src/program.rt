@@ -1,24 +1,27 @@
 //! The whole program.
-ghost use Rattle.std.specs.Prelude.{ℕ, ◌≡◌, map, string_bytes, IfOk, IfErr};
-ghost use Rattle.psg_run.specs.Causes.{in_file};
-ghost use Rattle.psg_run.specs.Output.{RepliesToAll};
-ghost use Rattle.psg_run.specs.Promise.{IsRun, Checks, Edits, Lives, Plays, SpentFromStart};
-ghost use Rattle.psg_run.specs.Worlds.{coming, seen, texts_of};
+ghost use Rattle.std.specs.Prelude.{ℕ, ◌≡◌, map, string_bytes};
+ghost use Rattle.psg_run.specs.Editing.{Edits};
+ghost use Rattle.psg_run.specs.Live.{Talks};
+ghost use Rattle.psg_run.specs.Promise.{HasNoForm, IsRun, IsRunOf, check as check_of, edit as edit_of, live as live_of};
+ghost use Rattle.psg_run.specs.Reading.{Reads, most_script_bytes};
+ghost use Rattle.psg_run.specs.Scripts.{script_lines};
+ghost use Rattle.psg_run.specs.Worlds.{Incoming, coming, seen, texts_of};
 
 use crate::generating::generate;
 use crate::limits::MOST_SCRIPT_BYTES;
 use crate::live::talk;
 use crate::play::play;
-use crate::source::{put_line, read_language, read_status, write_status};
+use crate::source::{put_line, read_language, read_within};
 use crate::status::Status;
 use crate::words::{Form, form_of};
+use psg_session::Session;
 use psg_specimen::Language;
 use psg_terms::Steps;
 use psg_world::{Files, Input, Sink};
 use std::alloc::Global;
 use std::sync::ledger::Ledger;
 
-/// Reads the script and plays it on the language.
+/// Reads the script, and plays it on a new session of the language.
 fn play_file<F: Files, O: Sink, L: Ledger>(
     alloc: Global,
     language: Language,
@@ -27,29 +30,26 @@ fn play_file<F: Files, O: Sink, L: Ledger>(
     out: &mut O,
     steps: &mut Steps<L>,
 ) -> Status
-    ensures { Plays RepliesToAll SpentFromStart language script.now
-        (seen (F.holds files.old) (F.faults files.old) (O.written out.old) (O.faults out.old) steps.old)
-        (seen (F.holds files.new) (F.faults files.new) (O.written out.new) (O.faults out.new) steps.new) result }
+    ensures { (input : Incoming) → Reads script.now most_script_bytes (λ bytes. Edits language (script_lines bytes))
+        (seen (F.holds files.old) (F.faults files.old) input steps.old (O.written out.old) (O.faults out.old))
+        (seen (F.holds files.new) (F.faults files.new) input steps.new (O.written out.new) (O.faults out.new))
+        result }
 {
-    let bytes = match files.read(alloc, script, MOST_SCRIPT_BYTES) {
+    let bytes = match read_within(alloc, script, MOST_SCRIPT_BYTES, files) {
         Ok(bytes) => bytes,
-        Err(stop) => return read_status(stop),
+        Err(status) => return status,
     };
-    let lines = bytes.as_slice();
-    if lines.len() > MOST_SCRIPT_BYTES {
-        return Status::TooLong;
-    }
-    match play(alloc, language, lines, files, out, steps) {
-        Ok(()) => Status::Done,
-        Err(stop) => write_status(stop),
-    }
+    let Ok(mut session) = Session::new(alloc, language) else {
+        return Status::Memory;
+    };
+    play(alloc, &mut session, bytes.as_slice(), files, out, steps)
 }
 
 /// Says whether the file has an accepted definition: `accepted`, or the line of its first fault.
 fn check<F: Files, O: Sink>(alloc: Global, definition: &str, files: &mut F, out: &mut O) -> Status
-    ensures { (ticks : ℕ) → Checks (in_file definition.now)
-        (seen (F.holds files.old) (F.faults files.old) (O.written out.old) (O.faults out.old) ticks)
-        (seen (F.holds files.new) (F.faults files.new) (O.written out.new) (O.faults out.new) ticks) result }
+    ensures { (input : Incoming) (ticks : ℕ) → IsRunOf (check_of definition.now)
+        (seen (F.holds files.old) (F.faults files.old) input ticks (O.written out.old) (O.faults out.old))
+        (seen (F.holds files.new) (F.faults files.new) input ticks (O.written out.new) (O.faults out.new)) result }
 {
     if let Err(status) = read_language(alloc, definition, files, out) {
         return status;
@@ -67,9 +67,10 @@ fn edit<F: Files, O: Sink, L: Ledger>(
     out: &mut O,
     steps: &mut Steps<L>,
 ) -> Status
-    ensures { Edits RepliesToAll SpentFromStart (in_file definition.now) script.now
-        (seen (F.holds files.old) (F.faults files.old) (O.written out.old) (O.faults out.old) steps.old)
-        (seen (F.holds files.new) (F.faults files.new) (O.written out.new) (O.faults out.new) steps.new) result }
+    ensures { (input : Incoming) → IsRunOf (edit_of definition.now script.now)
+        (seen (F.holds files.old) (F.faults files.old) input steps.old (O.written out.old) (O.faults out.old))
+        (seen (F.holds files.new) (F.faults files.new) input steps.new (O.written out.new) (O.faults out.new))
+        result }
 {
     let language = match read_language(alloc, definition, files, out) {
         Ok(language) => language,
@@ -88,17 +89,20 @@ fn live<F: Files, I: Input, O: Sink, L: Ledger>(
     out: &mut O,
     steps: &mut Steps<L>,
 ) -> Status
-    ensures { Lives RepliesToAll SpentFromStart (in_file definition.now)
-        (coming (I.lines input.old) (I.given input.old) (I.missed input.old))
-        (coming (I.lines input.new) (I.given input.new) (I.missed input.new))
-        (seen (F.holds files.old) (F.faults files.old) (O.written out.old) (O.faults out.old) steps.old)
-        (seen (F.holds files.new) (F.faults files.new) (O.written out.new) (O.faults out.new) steps.new) result }
+    ensures { IsRunOf (live_of definition.now)
+        (seen (F.holds files.old) (F.faults files.old) (coming (I.lines input.old) (I.given input.old) (I.missed input.old))
+        steps.old (O.written out.old) (O.faults out.old))
+        (seen (F.holds files.new) (F.faults files.new) (coming (I.lines input.new) (I.given input.new) (I.missed input.new))
+        steps.new (O.written out.new) (O.faults out.new)) result }
 {
     let language = match read_language(alloc, definition, files, out) {
         Ok(language) => language,
         Err(status) => return status,
     };
-    talk(alloc, language, files, input, out, steps)
+    let Ok(mut session) = Session::new(alloc, language) else {
+        return Status::Memory;
+    };
+    talk(alloc, &mut session, files, input, out, steps)
 }
 
 /// Does what the words say, and returns how that ended; `Status` says when each ending is returned. `check DEF` says in
@@ -116,11 +120,13 @@ pub fn run<F: Files, I: Input, O: Sink, L: Ledger>(
     steps: &mut Steps<L>,
 ) -> Status
     ensures run { IsRun (texts_of words.now)
-        (coming (I.lines input.old) (I.given input.old) (I.missed input.old))
-        (coming (I.lines input.new) (I.given input.new) (I.missed input.new))
-        (seen (F.holds files.old) (F.faults files.old) (O.written out.old) (O.faults out.old) steps.old)
-        (seen (F.holds files.new) (F.faults files.new) (O.written out.new) (O.faults out.new) steps.new)
-        result }
+        (seen (F.holds files.old) (F.faults files.old) (coming (I.lines input.old) (I.given input.old) (I.missed input.old))
+        steps.old (O.written out.old) (O.faults out.old))
+        (seen (F.holds files.new) (F.faults files.new) (coming (I.lines input.new) (I.given input.new) (I.missed input.new))
+        steps.new (O.written out.new) (O.faults out.new)) result }
+    // for words of no form nothing is even read: no call had one of the three
+    ensures untouched { HasNoForm (texts_of words.now)
+        → (files.new ≡ files.old) × (input.new ≡ input.old) × (out.new ≡ out.old) }
 {
     match form_of(words) {
         Some(Form::Check { definition }) => check(alloc, definition, files, out),

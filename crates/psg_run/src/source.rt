@@ -1,13 +1,15 @@
-//! The file of a definition, and the lines that are said of it.
-ghost use Rattle.std.specs.Prelude.{ℕ, ◌≡◌, ◌<◌, ◌^◌, List, IfOk, IfErr, length, string_bytes};
+//! The files that a run reads, and the definition that bytes are.
+ghost use Rattle.std.specs.Prelude.{ℕ, ◌≡◌, ◌<◌, ◌≤◌, ◌+◌, ◌^◌, List, Option, IfOk, IfErr, IfSome, length, vec_len};
 ghost use Rattle.psg_specimen.specs.Refusal.{Refuses};
 ghost use Rattle.psg_defread.specs.Reading.{IsReadAs, Spells};
 ghost use Rattle.psg_defread.specs.Refusals.{IsReadFault};
 ghost use Rattle.psg_grammar.specs.declared.types.Definition.{Definition as Plain};
-ghost use Rattle.psg_run.specs.Causes.{HasDefinition, IsAccepted, PutsLine, in_file};
-ghost use Rattle.psg_run.specs.Endings.{read_status as read_status_of, write_status as write_status_of, EndsRefused};
-ghost use Rattle.psg_run.specs.Promise.{EndsEarly};
-ghost use Rattle.psg_run.specs.Worlds.{seen};
+ghost use Rattle.psg_run.specs.Endings.{read_status as read_status_of, write_status as write_status_of};
+ghost use Rattle.psg_run.specs.Reading.{Defines, IsAccepted, Nowhere, OnDefinition, Reads, most_definition_bytes};
+ghost use Rattle.psg_run.specs.Worlds.{Incoming, Puts, World, seen};
+ghost use Rattle.psg_session.specs.Exchanges.{Outside};
+ghost use Rattle.psg_session.specs.Replies.{feed};
+ghost use Rattle.psg_world.specs.Files.{bytes_of};
 
 use crate::limits::MOST_DEFINITION_BYTES;
 use crate::status::Status;
@@ -36,10 +38,39 @@ pub fn write_status(stop: WriteStop) -> Status
     }
 }
 
-/// Writes the line with its line feed; `done` where it was written whole.
+/// Returns the bytes of the file, if they are at most so many. Otherwise it returns the status with which the run ends.
+pub fn read_within<F: Files>(
+    alloc: Global,
+    file: &str,
+    limit: usize,
+    files: &mut F,
+) -> Result<Vec<u8>, Status>
+    requires limit { limit + 1 < 2 ^ 64 }
+    ensures bytes { IfOk result (λ bytes. IfSome (F.holds files.old) (λ held. bytes.items ≡ bytes_of held file.now)) }
+    ensures short { IfOk result (λ bytes. length bytes.items ≤ limit) }
+    ensures holds { IfOk result (λ _. F.holds files.new ≡ F.holds files.old) }
+    ensures entries { IfOk result (λ _. F.faults files.new ≡ F.faults files.old) }
+    // the run ends here, whatever it would go on with
+    ensures err { IfErr result (λ status. (input : Incoming) (ticks : ℕ) (written : Option (List ℕ)) (count : ℕ)
+        → Reads file.now limit (λ _. Nowhere) (seen (F.holds files.old) (F.faults files.old) input ticks written count)
+        (seen (F.holds files.new) (F.faults files.new) input ticks written count) status) }
+{
+    let bytes = match files.read(alloc, file, limit) {
+        Ok(bytes) => bytes,
+        Err(stop) => return Err(read_status(stop)),
+    };
+    let text = bytes.as_slice();
+    if text.len() > limit {
+        return Err(Status::TooLong);
+    }
+    Ok(bytes)
+}
+
+/// Puts the line with its line feed, and returns `done` where it was put whole.
 pub fn put_line<O: Sink>(alloc: Global, out: &mut O, line: &str, done: Status) -> Status
-    ensures { PutsLine line.now done (O.written out.old) (O.written out.new) (O.faults out.old) (O.faults out.new)
-        result }
+    ensures { (files : Outside) (input : Incoming) (ticks : ℕ) → Puts (feed line.now) done
+        (seen files.held files.entries input ticks (O.written out.old) (O.faults out.old))
+        (seen files.held files.entries input ticks (O.written out.new) (O.faults out.new)) result }
 {
     let Ok(text) = format!(in alloc; "{line}\n") else {
         return Status::Memory;
@@ -50,10 +81,12 @@ pub fn put_line<O: Sink>(alloc: Global, out: &mut O, line: &str, done: Status) -
     }
 }
 
-/// Writes why the bytes are no definition.
+/// Puts the line that says why the bytes are no definition.
 fn end_fault<O: Sink>(alloc: Global, fault: ReadFault, out: &mut O) -> Status
-    ensures { (bytes : List ℕ) → IsReadFault bytes fault
-        → EndsRefused bytes (O.written out.old) (O.written out.new) (O.faults out.old) (O.faults out.new) result }
+    ensures { (bytes : List ℕ) (files : Outside) (input : Incoming) (ticks : ℕ) → IsReadFault bytes fault
+        → Defines bytes (λ _. Nowhere)
+        (seen files.held files.entries input ticks (O.written out.old) (O.faults out.old))
+        (seen files.held files.entries input ticks (O.written out.new) (O.faults out.new)) result }
 {
     let ReadFault::Def(fault) = fault else {
         return Status::Memory;
@@ -64,12 +97,14 @@ fn end_fault<O: Sink>(alloc: Global, fault: ReadFault, out: &mut O) -> Status
     put_line(alloc, out, line.as_str(), Status::DefinitionRefused)
 }
 
-/// Writes why the definition is not accepted.
+/// Puts the line that says why the definition is not accepted.
 fn end_refused<O: Sink>(alloc: Global, refused: &Refused, out: &mut O) -> Status
     requires refuses { Refuses refused.now.definition refused.now.fault }
-    ensures { (bytes : List ℕ) → IsReadAs bytes refused.now.definition
+    ensures { (bytes : List ℕ) (files : Outside) (input : Incoming) (ticks : ℕ) → IsReadAs bytes refused.now.definition
         → ((other : Plain) → Spells bytes other → other ≡ refused.now.definition)
-        → EndsRefused bytes (O.written out.old) (O.written out.new) (O.faults out.old) (O.faults out.new) result }
+        → Defines bytes (λ _. Nowhere)
+        (seen files.held files.entries input ticks (O.written out.old) (O.faults out.old))
+        (seen files.held files.entries input ticks (O.written out.new) (O.faults out.new)) result }
 {
     if let AcceptFault::Memory = refused.fault {
         return Status::Memory;
@@ -80,14 +115,15 @@ fn end_refused<O: Sink>(alloc: Global, refused: &Refused, out: &mut O) -> Status
     put_line(alloc, out, text.as_str(), Status::DefinitionRefused)
 }
 
-/// Gives the language of the definition that the text is, where it is one and is accepted. Otherwise the line that says
-/// why it is refused goes to `out`, and the status says how that ended.
+/// Returns the language of the definition that the text is, where it is one and is accepted. Otherwise the line that
+/// says why it is refused is put, and the status says how that ended.
 pub fn language_of<O: Sink>(alloc: Global, text: &[u8], out: &mut O) -> Result<Language, Status>
     requires { length text.now < 2 ^ 32 }
     ensures ok { IfOk result (λ l. IsAccepted text.now l) }
     ensures quiet { IfOk result (λ _. out.new ≡ out.old) }
-    ensures err { IfErr result (EndsRefused text.now (O.written out.old) (O.written out.new) (O.faults out.old)
-        (O.faults out.new)) }
+    ensures err { IfErr result (λ status. (files : Outside) (input : Incoming) (ticks : ℕ) → Defines text.now (λ _. Nowhere)
+        (seen files.held files.entries input ticks (O.written out.old) (O.faults out.old))
+        (seen files.held files.entries input ticks (O.written out.new) (O.faults out.new)) status) }
 {
     let definition = match read_definition(alloc, text) {
         Ok(definition) => definition,
@@ -99,33 +135,27 @@ pub fn language_of<O: Sink>(alloc: Global, text: &[u8], out: &mut O) -> Result<L
     }
 }
 
-/// Reads the definition of the file, and gives its language. The order of tests is that the file is read, its length,
+/// Reads the file of a definition, and returns its language. The order of tests is that the file is read, its length,
 /// whether its bytes are a definition, and whether it is accepted. Where it is not, the status says how the run ends,
-/// and the line of the first fault goes to `out`.
+/// and the line of the first fault is put.
 pub fn read_language<F: Files, O: Sink>(
     alloc: Global,
     file: &str,
     files: &mut F,
     out: &mut O,
 ) -> Result<Language, Status>
-    ensures ok { IfOk result (λ l. HasDefinition (F.holds files.old) (in_file file.now) l) }
+    ensures ok { IfOk result (λ l. (bytes : List ℕ)
+        × IfSome (F.holds files.old) (λ held. bytes ≡ bytes_of held file.now)
+        × (length bytes ≤ most_definition_bytes) × IsAccepted bytes l) }
     ensures holds { IfOk result (λ _. F.holds files.new ≡ F.holds files.old) }
     ensures entries { IfOk result (λ _. F.faults files.new ≡ F.faults files.old) }
     ensures quiet { IfOk result (λ _. out.new ≡ out.old) }
-    ensures err { IfErr result (λ status. (ticks : ℕ) → EndsEarly (in_file file.now)
-        (seen (F.holds files.old) (F.faults files.old) (O.written out.old) (O.faults out.old) ticks)
-        (seen (F.holds files.new) (F.faults files.new) (O.written out.new) (O.faults out.new) ticks) status) }
+    // the run ends here, whatever it would go on with
+    ensures err { IfErr result (λ status. (input : Incoming) (ticks : ℕ) → OnDefinition file.now (λ _. Nowhere)
+        (seen (F.holds files.old) (F.faults files.old) input ticks (O.written out.old) (O.faults out.old))
+        (seen (F.holds files.new) (F.faults files.new) input ticks (O.written out.new) (O.faults out.new)) status) }
 {
-    let bytes = match files.read(alloc, file, MOST_DEFINITION_BYTES) {
-        Ok(bytes) => bytes,
-        Err(stop) => return Err(read_status(stop)),
-    };
-    let text = bytes.as_slice();
-    if text.len() > MOST_DEFINITION_BYTES {
-        return Err(Status::TooLong);
-    }
-    match language_of(alloc, text, out) {
-        Ok(language) => Ok(language),
-        Err(status) => Err(status),
-    }
+    let bytes = read_within(alloc, file, MOST_DEFINITION_BYTES, files)?;
+    let language = language_of(alloc, bytes.as_slice(), out)?;
+    Ok(language)
 }

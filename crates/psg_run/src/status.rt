@@ -7,17 +7,17 @@ ghost use Rattle.psg_run.specs.Codes.{code_of};
 pub enum Status {
     /// The script or the input was read to its end, and every reply was written.
     Done,
-    /// The bytes of the definition are no definition, or one that is not of the grammar class, and the line that says
-    /// so was written.
+    /// The bytes of the definition are no definition, or one that is not accepted, and the line that says so was
+    /// written.
     DefinitionRefused,
     /// The words have none of the forms; nothing was read or written.
     Words,
     /// A read of the definition or of the script failed, and nothing was written; or one of the input failed, and the
     /// replies to the lines before were written.
     ReadFault,
-    /// A write of the output failed; a front of the output was written.
+    /// A write of the output failed; a front of the output was written, and not all of it.
     WriteFault,
-    /// There was no memory left; a front of the output was written.
+    /// There was no memory left; a front of the output was written, which may be empty.
     Memory,
     /// The definition or the script is too long; nothing was written.
     TooLong,

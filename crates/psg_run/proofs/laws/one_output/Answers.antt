@@ -1,6 +1,5 @@
-use Rattle.psg_grammar.specs.Legal.{IsCompletable}
 use Rattle.psg_run.proofs.OneOutput.{has_one_output}
 use Rattle.psg_run.proofs.laws.one_output.Goals as goal
 
 pub returns : goal.returns
-returns c = has_one_output c.args.definition.now (IsCompletable c.args.definition.now) c.requires.sound c.requires.class
+returns c = has_one_output c.args.definition.now c.requires.sound c.requires.class

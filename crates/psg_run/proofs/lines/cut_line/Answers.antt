@@ -1,7 +1,7 @@
 use Rattle.std.proofs.Common.{◌∷◌, take, sym, ap, ◌∙◌, ◌+◌}
 use Rattle.std.specs.List.{slice_split}
 use Rattle.std.proofs.lemmas.List.{take_rest}
-use Rattle.psg_run.specs.Output.{kept_lines, is_feed}
+use Rattle.psg_run.specs.Scripts.{kept_lines, is_feed}
 use Rattle.psg_run.proofs.Feeds.{cut_some, cut_none}
 use Rattle.psg_run.proofs.lines.cut_line.Goals as goal
 

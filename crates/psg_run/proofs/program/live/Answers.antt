@@ -1,23 +1,36 @@
-use Rattle.std.proofs.Common.{inl, inr, refl, ap, subst}
-use Rattle.psg_run.specs.Output.{RepliesToAll}
-use Rattle.psg_run.specs.Promise.{SpentFromStart, Talks}
-use Rattle.psg_run.specs.Worlds.{Incoming, World, coming, seen}
-use Rattle.psg_run.proofs.Ending.{talked_on}
-use Rattle.psg_run.proofs.Listening.{unstarted}
+use Rattle.std.proofs.Common.{[], ap, subst}
+use Rattle.psg_grammar.specs.declared.types.Definition.{Definition}
+use Rattle.psg_run.specs.Chain.{no_room_to_begin}
+use Rattle.psg_run.specs.Live.{Talks}
+use Rattle.psg_run.specs.Reading.{is_accepted, is_read}
+use Rattle.psg_run.specs.Worlds.{World, coming, seen}
+use Rattle.psg_run.proofs.Onward.{definition_on, same_seen}
 use Rattle.psg_run.proofs.program.live.Goals as goal
 
 pub returns-in-Err : goal.returns-in-Err
-returns-in-Err g c = inl (c.in-Err.ensures.err c.args.steps.now, refl)
+returns-in-Err g c =
+    definition_on c.args.definition.now Talks (seen (g.F.Files.holds c.args.files.now) (g.F.Files.faults c.args.files.now) (coming (g.I.Input.lines c.args.input.now) (g.I.Input.given c.args.input.now) (g.I.Input.missed c.args.input.now)) c.args.steps.now (g.O.Sink.written c.args.out.now) (g.O.Sink.faults c.args.out.now))
+    (seen (g.F.Files.holds c.read_language.new.files) (g.F.Files.faults c.read_language.new.files) (coming (g.I.Input.lines c.args.input.now) (g.I.Input.given c.args.input.now) (g.I.Input.missed c.args.input.now)) c.args.steps.now (g.O.Sink.written c.read_language.new.out) (g.O.Sink.faults c.read_language.new.out)) c.in-Err.status (c.in-Err.ensures.err (coming (g.I.Input.lines c.args.input.now) (g.I.Input.given c.args.input.now) (g.I.Input.missed c.args.input.now)) c.args.steps.now)
+
+pub returns-in_default : goal.returns-in_default
+returns-in_default g c =
+    let (bytes, are, short, accepted) = c.in-Ok.ensures.ok in
+    is_read bytes are short (is_accepted c.in-Ok.language accepted (
+      [],
+      no_room_to_begin
+          (same_seen (g.F.Files.holds c.args.files.now) (g.F.Files.holds c.read_language.new.files) (g.F.Files.faults c.args.files.now)
+          (g.F.Files.faults c.read_language.new.files) (coming (g.I.Input.lines c.args.input.now) (g.I.Input.given c.args.input.now) (g.I.Input.missed c.args.input.now)) c.args.steps.now (g.O.Sink.written c.args.out.now) (g.O.Sink.written c.read_language.new.out)
+          (g.O.Sink.faults c.args.out.now) (g.O.Sink.faults c.read_language.new.out) c.in-Ok.ensures.holds c.in-Ok.ensures.entries
+          (ap g.O.Sink.written c.in-Ok.ensures.quiet) (ap g.O.Sink.faults c.in-Ok.ensures.quiet)),
+    ))
 
 pub returns : goal.returns
 returns g c =
-    let input : Incoming = coming (g.I.Input.lines c.args.input.now) (g.I.Input.given c.args.input.now) (g.I.Input.missed c.args.input.now) in
-    let input' : Incoming = coming (g.I.Input.lines c.talk.new.input) (g.I.Input.given c.talk.new.input) (g.I.Input.missed c.talk.new.input) in
-    let new : World = seen (g.F.Files.holds c.talk.new.files) (g.F.Files.faults c.talk.new.files) (g.O.Sink.written c.talk.new.out) (g.O.Sink.faults c.talk.new.out) c.talk.new.steps in
-    let mid : World = seen (g.F.Files.holds c.read_language.new.files) (g.F.Files.faults c.read_language.new.files) (g.O.Sink.written c.read_language.new.out) (g.O.Sink.faults c.read_language.new.out) c.args.steps.now in
-    talked_on (g.F.Files.holds c.args.files.now) (g.F.Files.holds c.read_language.new.files) (g.F.Files.faults c.args.files.now)
-    (g.F.Files.faults c.read_language.new.files) (g.O.Sink.written c.args.out.now) (g.O.Sink.written c.read_language.new.out)
-    (g.O.Sink.faults c.args.out.now) (g.O.Sink.faults c.read_language.new.out) c.args.steps.now new input input' c.args.definition.now
-    c.in-Ok.language c.talk.result c.in-Ok.ensures.holds c.in-Ok.ensures.entries
-    (ap g.O.Sink.written c.in-Ok.ensures.quiet) (ap g.O.Sink.faults c.in-Ok.ensures.quiet) c.in-Ok.ensures.ok
-    c.talk.ensures
+    let (bytes, are, short, accepted) = c.in-Ok.ensures.ok in
+    let same = same_seen (g.F.Files.holds c.args.files.now) (g.F.Files.holds c.read_language.new.files) (g.F.Files.faults c.args.files.now)
+    (g.F.Files.faults c.read_language.new.files) (coming (g.I.Input.lines c.args.input.now) (g.I.Input.given c.args.input.now) (g.I.Input.missed c.args.input.now)) c.args.steps.now (g.O.Sink.written c.args.out.now) (g.O.Sink.written c.read_language.new.out)
+    (g.O.Sink.faults c.args.out.now) (g.O.Sink.faults c.read_language.new.out) c.in-Ok.ensures.holds c.in-Ok.ensures.entries
+    (ap g.O.Sink.written c.in-Ok.ensures.quiet) (ap g.O.Sink.faults c.in-Ok.ensures.quiet) in
+    is_read bytes are short (is_accepted c.in-Ok.language accepted
+    (subst (λ (d : Definition). Talks d (seen (g.F.Files.holds c.args.files.now) (g.F.Files.faults c.args.files.now) (coming (g.I.Input.lines c.args.input.now) (g.I.Input.given c.args.input.now) (g.I.Input.missed c.args.input.now)) c.args.steps.now (g.O.Sink.written c.args.out.now) (g.O.Sink.faults c.args.out.now)) (seen (g.F.Files.holds c.talk.new.files) (g.F.Files.faults c.talk.new.files) (coming (g.I.Input.lines c.talk.new.input) (g.I.Input.given c.talk.new.input) (g.I.Input.missed c.talk.new.input)) c.talk.new.steps (g.O.Sink.written c.talk.new.out) (g.O.Sink.faults c.talk.new.out)) c.talk.result) c.in-Ok-new.ensures.language
+    (subst (λ (w : World). Talks c.in-Ok-new.session.language w (seen (g.F.Files.holds c.talk.new.files) (g.F.Files.faults c.talk.new.files) (coming (g.I.Input.lines c.talk.new.input) (g.I.Input.given c.talk.new.input) (g.I.Input.missed c.talk.new.input)) c.talk.new.steps (g.O.Sink.written c.talk.new.out) (g.O.Sink.faults c.talk.new.out)) c.talk.result) same c.talk.ensures)))

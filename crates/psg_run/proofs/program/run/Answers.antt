@@ -1,41 +1,38 @@
 use Rattle.std.proofs.Common.{◌≡◌, [], ◌∷◌}
 use Rattle.std.specs.Prelude.{codes}
+use Rattle.psg_run.specs.Promise.{check, edit, gen, live}
 use Rattle.psg_run.specs.Worlds.{coming, seen, texts_of}
-use Rattle.psg_run.proofs.WordForms.{of_check, of_edit, of_gen, of_live}
+use Rattle.psg_run.proofs.WordForms.{has_form, of_check, of_edit, of_gen, of_live}
 use Rattle.psg_run.proofs.program.run.Goals as goal
 
 pub returns-in-Some-Check : goal.returns-in-Some-Check
 returns-in-Some-Check g c =
     let wanted : texts_of c.args.words.now ≡ codes "check" ∷ c.in-Some-Check.definition.now ∷ [] = rw c.in-Some-Check.field-0-is at c.in-Some-Check.ensures in
     record {
-      run = of_check (texts_of c.args.words.now) c.in-Some-Check.definition.now
-          (coming (g.I.Input.lines c.args.input.now) (g.I.Input.given c.args.input.now) (g.I.Input.missed c.args.input.now))
-          (seen (g.F.Files.holds c.args.files.now) (g.F.Files.faults c.args.files.now) (g.O.Sink.written c.args.out.now) (g.O.Sink.faults c.args.out.now) c.args.steps.now)
-          (seen (g.F.Files.holds c.check.new.files) (g.F.Files.faults c.check.new.files) (g.O.Sink.written c.check.new.out) (g.O.Sink.faults c.check.new.out) c.args.steps.now)
-          c.check.result wanted (c.check.ensures c.args.steps.now);
+      run = of_check (texts_of c.args.words.now) (seen (g.F.Files.holds c.args.files.now) (g.F.Files.faults c.args.files.now) (coming (g.I.Input.lines c.args.input.now) (g.I.Input.given c.args.input.now) (g.I.Input.missed c.args.input.now)) c.args.steps.now (g.O.Sink.written c.args.out.now) (g.O.Sink.faults c.args.out.now))
+          (seen (g.F.Files.holds c.check.new.files) (g.F.Files.faults c.check.new.files) (coming (g.I.Input.lines c.args.input.now) (g.I.Input.given c.args.input.now) (g.I.Input.missed c.args.input.now)) c.args.steps.now (g.O.Sink.written c.check.new.out) (g.O.Sink.faults c.check.new.out))
+          c.check.result c.in-Some-Check.definition.now wanted (c.check.ensures (coming (g.I.Input.lines c.args.input.now) (g.I.Input.given c.args.input.now) (g.I.Input.missed c.args.input.now)) c.args.steps.now);
+      untouched = λ none. absurd (has_form (texts_of c.args.words.now) (seen (g.F.Files.holds c.args.files.now) (g.F.Files.faults c.args.files.now) (coming (g.I.Input.lines c.args.input.now) (g.I.Input.given c.args.input.now) (g.I.Input.missed c.args.input.now)) c.args.steps.now (g.O.Sink.written c.args.out.now) (g.O.Sink.faults c.args.out.now)) (seen (g.F.Files.holds c.args.files.now) (g.F.Files.faults c.args.files.now) (coming (g.I.Input.lines c.args.input.now) (g.I.Input.given c.args.input.now) (g.I.Input.missed c.args.input.now)) c.args.steps.now (g.O.Sink.written c.args.out.now) (g.O.Sink.faults c.args.out.now)) c.check.result (check c.in-Some-Check.definition.now) wanted none);
     }
 
 pub returns-in-Some-Edit : goal.returns-in-Some-Edit
 returns-in-Some-Edit g c =
     let wanted : texts_of c.args.words.now ≡ codes "edit" ∷ c.in-Some-Edit.definition.now ∷ c.in-Some-Edit.script.now ∷ [] = rw c.in-Some-Edit.field-0-is at c.in-Some-Edit.ensures in
     record {
-      run = of_edit (texts_of c.args.words.now) c.in-Some-Edit.definition.now c.in-Some-Edit.script.now
-          (coming (g.I.Input.lines c.args.input.now) (g.I.Input.given c.args.input.now) (g.I.Input.missed c.args.input.now))
-          (seen (g.F.Files.holds c.args.files.now) (g.F.Files.faults c.args.files.now) (g.O.Sink.written c.args.out.now) (g.O.Sink.faults c.args.out.now) c.args.steps.now)
-          (seen (g.F.Files.holds c.edit.new.files) (g.F.Files.faults c.edit.new.files) (g.O.Sink.written c.edit.new.out) (g.O.Sink.faults c.edit.new.out) c.edit.new.steps)
-          c.edit.result wanted c.edit.ensures;
+      run = of_edit (texts_of c.args.words.now) (seen (g.F.Files.holds c.args.files.now) (g.F.Files.faults c.args.files.now) (coming (g.I.Input.lines c.args.input.now) (g.I.Input.given c.args.input.now) (g.I.Input.missed c.args.input.now)) c.args.steps.now (g.O.Sink.written c.args.out.now) (g.O.Sink.faults c.args.out.now))
+          (seen (g.F.Files.holds c.edit.new.files) (g.F.Files.faults c.edit.new.files) (coming (g.I.Input.lines c.args.input.now) (g.I.Input.given c.args.input.now) (g.I.Input.missed c.args.input.now)) c.edit.new.steps (g.O.Sink.written c.edit.new.out) (g.O.Sink.faults c.edit.new.out))
+          c.edit.result c.in-Some-Edit.definition.now c.in-Some-Edit.script.now wanted (c.edit.ensures (coming (g.I.Input.lines c.args.input.now) (g.I.Input.given c.args.input.now) (g.I.Input.missed c.args.input.now)));
+      untouched = λ none. absurd (has_form (texts_of c.args.words.now) (seen (g.F.Files.holds c.args.files.now) (g.F.Files.faults c.args.files.now) (coming (g.I.Input.lines c.args.input.now) (g.I.Input.given c.args.input.now) (g.I.Input.missed c.args.input.now)) c.args.steps.now (g.O.Sink.written c.args.out.now) (g.O.Sink.faults c.args.out.now)) (seen (g.F.Files.holds c.args.files.now) (g.F.Files.faults c.args.files.now) (coming (g.I.Input.lines c.args.input.now) (g.I.Input.given c.args.input.now) (g.I.Input.missed c.args.input.now)) c.args.steps.now (g.O.Sink.written c.args.out.now) (g.O.Sink.faults c.args.out.now)) c.edit.result (edit c.in-Some-Edit.definition.now c.in-Some-Edit.script.now) wanted none);
     }
 
 pub returns-in-Some-Live : goal.returns-in-Some-Live
 returns-in-Some-Live g c =
     let wanted : texts_of c.args.words.now ≡ codes "live" ∷ c.in-Some-Live.definition.now ∷ [] = rw c.in-Some-Live.field-0-is at c.in-Some-Live.ensures in
     record {
-      run = of_live (texts_of c.args.words.now) c.in-Some-Live.definition.now
-          (coming (g.I.Input.lines c.args.input.now) (g.I.Input.given c.args.input.now) (g.I.Input.missed c.args.input.now))
-          (coming (g.I.Input.lines c.live.new.input) (g.I.Input.given c.live.new.input) (g.I.Input.missed c.live.new.input))
-          (seen (g.F.Files.holds c.args.files.now) (g.F.Files.faults c.args.files.now) (g.O.Sink.written c.args.out.now) (g.O.Sink.faults c.args.out.now) c.args.steps.now)
-          (seen (g.F.Files.holds c.live.new.files) (g.F.Files.faults c.live.new.files) (g.O.Sink.written c.live.new.out) (g.O.Sink.faults c.live.new.out) c.live.new.steps)
-          c.live.result wanted c.live.ensures;
+      run = of_live (texts_of c.args.words.now) (seen (g.F.Files.holds c.args.files.now) (g.F.Files.faults c.args.files.now) (coming (g.I.Input.lines c.args.input.now) (g.I.Input.given c.args.input.now) (g.I.Input.missed c.args.input.now)) c.args.steps.now (g.O.Sink.written c.args.out.now) (g.O.Sink.faults c.args.out.now))
+          (seen (g.F.Files.holds c.live.new.files) (g.F.Files.faults c.live.new.files) (coming (g.I.Input.lines c.live.new.input) (g.I.Input.given c.live.new.input) (g.I.Input.missed c.live.new.input)) c.live.new.steps (g.O.Sink.written c.live.new.out) (g.O.Sink.faults c.live.new.out))
+          c.live.result c.in-Some-Live.definition.now wanted c.live.ensures;
+      untouched = λ none. absurd (has_form (texts_of c.args.words.now) (seen (g.F.Files.holds c.args.files.now) (g.F.Files.faults c.args.files.now) (coming (g.I.Input.lines c.args.input.now) (g.I.Input.given c.args.input.now) (g.I.Input.missed c.args.input.now)) c.args.steps.now (g.O.Sink.written c.args.out.now) (g.O.Sink.faults c.args.out.now)) (seen (g.F.Files.holds c.args.files.now) (g.F.Files.faults c.args.files.now) (coming (g.I.Input.lines c.args.input.now) (g.I.Input.given c.args.input.now) (g.I.Input.missed c.args.input.now)) c.args.steps.now (g.O.Sink.written c.args.out.now) (g.O.Sink.faults c.args.out.now)) c.live.result (live c.in-Some-Live.definition.now) wanted none);
     }
 
 pub generate-requires-clause-low : goal.generate-requires-clause-low
@@ -46,10 +43,10 @@ generate-requires-clause-high g c = (rw c.in-Some-Gen.field-0-is at c.in-Some-Ge
 
 pub returns-in-Some-Gen : goal.returns-in-Some-Gen
 returns-in-Some-Gen g c =
+    let wanted = rw c.in-Some-Gen.field-0-is at c.in-Some-Gen.ensures in
     record {
-      run = of_gen (texts_of c.args.words.now) c.in-Some-Gen.number
-          (coming (g.I.Input.lines c.args.input.now) (g.I.Input.given c.args.input.now) (g.I.Input.missed c.args.input.now))
-          (seen (g.F.Files.holds c.args.files.now) (g.F.Files.faults c.args.files.now) (g.O.Sink.written c.args.out.now) (g.O.Sink.faults c.args.out.now) c.args.steps.now)
-          (seen (g.F.Files.holds c.generate.new.files) (g.F.Files.faults c.generate.new.files) (g.O.Sink.written c.generate.new.out) (g.O.Sink.faults c.generate.new.out) c.generate.new.steps)
-          c.generate.result (rw c.in-Some-Gen.field-0-is at c.in-Some-Gen.ensures) c.generate.ensures;
+      run = of_gen (texts_of c.args.words.now) (seen (g.F.Files.holds c.args.files.now) (g.F.Files.faults c.args.files.now) (coming (g.I.Input.lines c.args.input.now) (g.I.Input.given c.args.input.now) (g.I.Input.missed c.args.input.now)) c.args.steps.now (g.O.Sink.written c.args.out.now) (g.O.Sink.faults c.args.out.now))
+          (seen (g.F.Files.holds c.generate.new.files) (g.F.Files.faults c.generate.new.files) (coming (g.I.Input.lines c.args.input.now) (g.I.Input.given c.args.input.now) (g.I.Input.missed c.args.input.now)) c.generate.new.steps (g.O.Sink.written c.generate.new.out) (g.O.Sink.faults c.generate.new.out))
+          c.generate.result c.in-Some-Gen.number wanted (c.generate.ensures (coming (g.I.Input.lines c.args.input.now) (g.I.Input.given c.args.input.now) (g.I.Input.missed c.args.input.now)));
+      untouched = λ none. absurd (has_form (texts_of c.args.words.now) (seen (g.F.Files.holds c.args.files.now) (g.F.Files.faults c.args.files.now) (coming (g.I.Input.lines c.args.input.now) (g.I.Input.given c.args.input.now) (g.I.Input.missed c.args.input.now)) c.args.steps.now (g.O.Sink.written c.args.out.now) (g.O.Sink.faults c.args.out.now)) (seen (g.F.Files.holds c.args.files.now) (g.F.Files.faults c.args.files.now) (coming (g.I.Input.lines c.args.input.now) (g.I.Input.given c.args.input.now) (g.I.Input.missed c.args.input.now)) c.args.steps.now (g.O.Sink.written c.args.out.now) (g.O.Sink.faults c.args.out.now)) c.generate.result (gen c.in-Some-Gen.number) wanted none);
     }

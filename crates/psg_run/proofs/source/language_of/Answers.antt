@@ -1,17 +1,27 @@
 use Rattle.std.proofs.Common.{sym, ◌∙◌, subst}
 use Rattle.psg_defread.specs.Reading.{IsReadAs}
+use Rattle.psg_specimen.specs.Refusal.{IsAccepted}
 use Rattle.psg_run.proofs.source.language_of.Goals as goal
 
 pub returns-in-Err-clause-err : goal.returns-in-Err-clause-err
-returns-in-Err-clause-err g c = c.end_fault.ensures c.args.text.now c.in-Err.ensures.err
+returns-in-Err-clause-err g c = λ files input ticks. c.end_fault.ensures c.args.text.now files input ticks c.in-Err.ensures.err
 
 pub accept-requires-clause-words : goal.accept-requires-clause-words
 accept-requires-clause-words g c = c.in-Ok.ensures.words
 
 pub returns-in-Err-accept-clause-err : goal.returns-in-Err-accept-clause-err
-returns-in-Err-accept-clause-err g c =
+returns-in-Err-accept-clause-err g c = λ files input ticks.
     let back = c.in-Err-accept.ensures.back in
-    c.end_refused.ensures c.args.text.now
+    c.end_refused.ensures c.args.text.now files input ticks
     (subst (IsReadAs c.args.text.now) (sym back)
     (record { spells = c.in-Ok.ensures.ok; faultless = c.in-Ok.ensures.faultless }))
     (λ other spells. c.in-Ok.ensures.only other spells ∙ sym back)
+
+pub returns-in-Ok-accept-clause-ok : goal.returns-in-Ok-accept-clause-ok
+returns-in-Ok-accept-clause-ok g c =
+    let same = c.in-Ok-accept.ensures.language in
+    record {
+      read = subst (IsReadAs c.args.text.now) (sym same) (record { spells = c.in-Ok.ensures.ok; faultless = c.in-Ok.ensures.faultless });
+      only = λ other spells. c.in-Ok.ensures.only other spells ∙ sym same;
+      accepted = subst IsAccepted (sym same) c.in-Ok-accept.ensures.accepted;
+    }

@@ -1,0 +1,175 @@
+-- A run for which nothing goes wrong outside ends well.
+use Rattle.std.proofs.Common.{◌≡◌, inl, inr, ℕ, ◌<◌, ◌≤◌, ◌⊎◌, List, [], ◌∷◌, ◌++◌, length, Option, Some, IfSome, refl}
+use Rattle.std.proofs.Common.{sym, ◌∙◌, ap, subst, arith}
+use Rattle.std.specs.Prelude.{codes}
+use Rattle.psg_terms.specs.Names.{Name}
+use Rattle.psg_grammar.specs.declared.types.Definition.{Definition}
+use Rattle.psg_specimen.specs.Refusal.{IsAccepted as IsAcceptable}
+use Rattle.psg_specimen.proofs.Stages.{not_both}
+use Rattle.psg_langs.specs.declared.named.TheConstants.{MINI}
+use Rattle.psg_world.specs.Files.{Held, bytes_of}
+use Rattle.psg_world.specs.Sinks.{HasRisen}
+use Rattle.psg_session.specs.Replies.{feed}
+use Rattle.psg_run.specs.declared.status.Status.{Status}
+use Rattle.psg_run.specs.declared.status.Status.TheVariants as ends_with
+use Rattle.psg_run.specs.Chain.{Point, Runs, breaks, closes, goes, is_played, no_room_to_begin, puts_front, rests}
+use Rattle.psg_run.specs.Editing.{Edits, Editor}
+use Rattle.psg_run.specs.Generated.{Generates, no_room_to_tell, tells}
+use Rattle.psg_run.specs.Live.{EndsInput, IsRepliedLive, Talks, is_at_end, is_unread_line, no_room_for_line}
+use Rattle.psg_run.specs.Outputs.{EndsWell, HasDefinition, IsShort, WasRead}
+use Rattle.psg_run.specs.Promise.{check, edit, live, gen}
+use Rattle.psg_run.specs.Reading.{Defines, IsAccepted, IsRefusalLine, Reads, is_accepted, is_long, is_read, is_refused}
+use Rattle.psg_run.specs.Reading.{is_unread, most_definition_bytes, most_script_bytes, no_definition}
+use Rattle.psg_run.specs.Reading.{no_room_for_definition, no_room_for_file, not_accepted}
+use Rattle.psg_run.specs.Scripts.{script_lines}
+use Rattle.psg_run.specs.Worlds.{Act, Incoming, Puts, PutsFront, World, not_put, put_failed, put_front, put_in_part}
+use Rattle.psg_run.specs.Worlds.{put_whole}
+use Rattle.psg_run.proofs.LiveLines.{input_kept}
+
+-- ---- definitions
+
+pub one_accepted : (bytes : List ℕ) (def other : Definition) → IsAccepted bytes def → IsAccepted bytes other
+    → other ≡ def
+one_accepted bytes def other a b = a.only other b.read.spells
+
+pub not_refused : (bytes line : List ℕ) (def : Definition) → IsAccepted bytes def → IsRefusalLine bytes line → ⊥
+not_refused bytes line def a (no_definition fault refusal is) = a.read.faultless fault refusal
+not_refused bytes line def a (not_accepted other fault read only refusal is) =
+    not_both other (subst IsAcceptable (only def a.read.spells) a.accepted) fault refusal
+
+-- what is said of the files where it is known what they hold
+pub if_known : (known : Option Held) (held : Held) (P : Held → Type 0) → known ≡ Some held → IfSome known P → P held
+if_known known held P e h = subst (λ (x : Option Held). IfSome x P) e h
+
+pub known_bytes : (known : Option Held) (held : Held) (file : Name) (bytes : List ℕ) → known ≡ Some held
+    → IfSome known (λ h. bytes ≡ bytes_of h file) → bytes ≡ bytes_of held file
+known_bytes known held file bytes e are = if_known known held (λ h. bytes ≡ bytes_of h file) e are
+
+longer : (xs : List ℕ) (x : ℕ) → xs ++ x ∷ [] ≡ xs → ⊥
+longer [] x e = cc
+longer (y ∷ ys) x e = let rest : ys ++ x ∷ [] ≡ ys = cc in longer ys x rest
+
+-- ---- endings
+
+-- it is a good one, or memory ran out
+abbrev IsWell : Status → Type 0
+IsWell status = (status ≡ ends_with.Done) ⊎ (status ≡ ends_with.Memory)
+
+-- a front is put where the sink failed, or memory ran out
+front_well : {bytes : List ℕ} {old new : World} {status : Status} → (HasRisen old.count new.count → ⊥)
+    → PutsFront bytes old new status → IsWell status
+front_well sink (put_failed front proper wrote risen) = absurd (sink risen)
+front_well sink (put_in_part front proper wrote) = inr refl
+front_well sink (not_put wrote) = inr refl
+
+puts_well : {bytes : List ℕ} {ended status : Status} {old new : World} → IsWell ended
+    → (HasRisen old.count new.count → ⊥) → Puts bytes ended old new status → IsWell status
+puts_well well sink (put_whole wrote) = well
+puts_well well sink (put_front front) = front_well sink front
+
+module _ (old new : World) (sink : HasRisen old.count new.count → ⊥) where
+  -- ---- what is played
+
+  edit_well : (def : Definition) (lines : List (List ℕ)) (status : Status) → Edits def lines old new status
+      → IsWell status
+  edit_well def lines status
+      (is_played first left texts last split runs (closes t text ended (none, is_done, same) puts)) =
+      puts_well (inl is_done) sink puts
+  edit_well def lines status (is_played first left texts last split runs (puts_front t text played front)) =
+      front_well sink front
+  edit_well def lines status (is_played first left texts last split runs (breaks t broken wrote)) = inr refl
+  edit_well def lines status (no_room_to_begin same) = inr refl
+
+  gen_well : (def : Definition) (number : ℕ) (status : Status) → Generates def number old new status → IsWell status
+  gen_well def number status
+      (is_played first left texts last split runs (closes t text ended (tells lines five) puts)) =
+      puts_well (inl refl) sink puts
+  gen_well def number status (is_played first left texts last split runs (closes t text ended no_room_to_tell puts)) =
+      puts_well (inr refl) sink puts
+  gen_well def number status (is_played first left texts last split runs (puts_front t text played front)) =
+      front_well sink front
+  gen_well def number status (is_played first left texts last split runs (breaks t broken wrote)) = inr refl
+  gen_well def number status (no_room_to_begin same) = inr refl
+
+  -- no line that was given is missed
+  none_missed : (def : Definition) {s t : Point Editor} {pieces : List (List ℕ)} {texts : List ℕ}
+      → Runs Editor (IsRepliedLive def) s pieces texts t → t.input.missed ≡ s.input.missed
+  none_missed def rests = refl
+  none_missed def (goes mid text texts (input, gives, runs) more) =
+      none_missed def more ∙ ap (λ (x : Incoming). x.missed) (input_kept def runs) ∙ gives.missed
+
+  -- the input ended
+  input_well : (before last : Incoming) (ended status : Status) {bytes : List ℕ} {from : World} → from.count ≡ old.count
+      → from.input ≡ last → before.missed ≡ old.input.missed → new.input.missed ≡ old.input.missed
+      → EndsInput before last ended → Puts bytes ended from new status → IsWell status
+  input_well before last ended status counts is same missed (is_at_end at_end given kept) puts =
+      puts_well (inl refl) (λ risen. sink (subst (λ n. HasRisen n new.count) counts risen)) puts
+  input_well before last ended status counts is same missed (is_unread_line given entry) (put_whole wrote) =
+      let now : new.input.missed ≡ last.missed = ap (λ (x : Incoming). x.missed) (wrote.input ∙ is) in
+      absurd (longer before.missed before.given (sym entry ∙ sym now ∙ missed ∙ sym same))
+  input_well before last ended status counts is same missed (is_unread_line given entry) (put_front front) =
+      front_well (λ risen. sink (subst (λ n. HasRisen n new.count) counts risen)) front
+  input_well before last ended status counts is same missed (no_room_for_line given kept) puts =
+      puts_well (inr refl) (λ risen. sink (subst (λ n. HasRisen n new.count) counts risen)) puts
+
+  live_well : (def : Definition) (status : Status) → new.input.missed ≡ old.input.missed → Talks def old new status
+      → IsWell status
+  live_well def status missed
+      (pieces, is_played first left texts last split runs (closes t text ended (none, at_end, same) puts)) =
+      input_well last.input t.input ended status refl refl (none_missed def runs) missed at_end puts
+  live_well def status missed (pieces, is_played first left texts last split runs (puts_front t text played front)) =
+      front_well sink front
+  live_well def status missed (pieces, is_played first left texts last split runs (breaks t broken wrote)) = inr refl
+  live_well def status missed (pieces, no_room_to_begin same) = inr refl
+
+  -- ---- what is read
+
+  defines_well : (bytes : List ℕ) (def : Definition) (Next : Definition → Act) (status : Status) → IsAccepted bytes def
+      → ((other : Definition) (status : Status) → Next other old new status → IsWell status)
+      → Defines bytes Next old new status → IsWell status
+  defines_well bytes def Next status accepted next (is_accepted other other_accepted on) = next other status on
+  defines_well bytes def Next status accepted next (is_refused line refusal puts) =
+      absurd (not_refused bytes line def accepted refusal)
+  defines_well bytes def Next status accepted next (no_room_for_definition same) = inr refl
+
+  reads_well : (held : Held) (file : Name) (limit : ℕ) (Next : List ℕ → Act) (status : Status)
+      → old.files.held ≡ Some held → length (bytes_of held file) ≤ limit → WasRead old new file
+      → ((status : Status) → Next (bytes_of held file) old new status → IsWell status)
+      → Reads file limit Next old new status → IsWell status
+  reads_well held file limit Next status known short was next (is_read bytes are within on) =
+      next status (subst (λ b. Next b old new status) (known_bytes old.files.held held file bytes known are) on)
+  reads_well held file limit Next status known short was next (is_unread same) = absurd (was same)
+  reads_well held file limit Next status known short was next (is_long bytes are long same) =
+      let more : limit < length (bytes_of held file) =
+      subst (λ b. limit < length b) (known_bytes old.files.held held file bytes known are) long in
+      absurd (omega (arith, short, more))
+  reads_well held file limit Next status known short was next (no_room_for_file same) = inr refl
+
+  -- the definition's file is read, and the run goes on
+  file_well : (file : Name) (Next : Definition → Act) (status : Status) → HasDefinition old file → WasRead old new file
+      → ((other : Definition) (status : Status) → Next other old new status → IsWell status)
+      → Reads file most_definition_bytes (λ bytes. Defines bytes Next) old new status → IsWell status
+  file_well file Next status has was next run =
+      reads_well has.held file most_definition_bytes (λ bytes. Defines bytes Next) status has.known has.short was
+      (λ ended on. defines_well (bytes_of has.held file) has.def Next ended has.accepted next on) run
+
+  script_well : (script : Name) (def : Definition) (status : Status) → IsShort old script most_script_bytes
+      → WasRead old new script
+      → Reads script most_script_bytes (λ bytes. Edits def (script_lines bytes)) old new status → IsWell status
+  script_well script def status short was run =
+      reads_well short.held script most_script_bytes (λ bytes. Edits def (script_lines bytes)) status short.known
+      short.short was
+      (λ ended on. edit_well def (script_lines (bytes_of short.held script)) ended on) run
+
+pub has_ended_well : EndsWell
+has_ended_well (check d) old new status run (has, was, sink) =
+    file_well old new sink d (λ def. Puts (feed (codes "accepted")) ends_with.Done) status has was
+    (λ def ended puts. puts_well (inl refl) sink puts) run
+has_ended_well (edit d s) old new status run (has, was, short, was_script, sink) =
+    file_well old new sink d (λ def. Reads s most_script_bytes (λ bytes. Edits def (script_lines bytes))) status has was
+    (λ def ended on. script_well old new sink s def ended short was_script on) run
+has_ended_well (live d) old new status run (has, was, missed, sink) =
+    file_well old new sink d Talks status has was (λ def ended on. live_well old new sink def ended missed on) run
+has_ended_well (gen number) old new status run ((def, accepted), sink) =
+    defines_well old new sink MINI.now def (λ other. Generates other number) status accepted
+    (λ other ended on. gen_well old new sink other number ended on) run

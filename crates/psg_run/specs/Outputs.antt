@@ -1,0 +1,152 @@
+-- The plain editor gives each script one output and lacks none; its trees stay of their kinds; and a run for which
+-- nothing goes wrong outside ends well.
+use Rattle.std.specs.Prelude.{ℕ, ◌≡◌, ◌≤◌, ◌++◌, ◌⊎◌, Bool, true, false, List, [], ◌∷◌, length, Some}
+use Rattle.std.specs.Io.KnownBytes.{append_known}
+use Rattle.psg_terms.specs.Names.{Name}
+use Rattle.psg_grammar.specs.declared.types.Definition.{Definition}
+use Rattle.psg_langs.specs.declared.named.TheConstants.{MINI}
+use Rattle.psg_world.specs.Files.{Held, bytes_of}
+use Rattle.psg_world.specs.Sinks.{HasRisen}
+use Rattle.psg_session.specs.Exchanges.{Outside}
+use Rattle.psg_session.specs.Formed.{IsFormedState}
+use Rattle.psg_session.specs.Lines.{HasAnswered, to_nothing, to_command}
+use Rattle.psg_session.specs.PlainState.{Answer, State, not_asked, stored, got, lost}
+use Rattle.psg_session.specs.Replies.{Reply}
+use Rattle.psg_session.specs.SomeStep.{CannotLack}
+use Rattle.psg_run.specs.declared.status.Status.{Status}
+use Rattle.psg_run.specs.declared.status.Status.TheVariants as ends_with
+use Rattle.psg_run.specs.Chain.{Point, Runs, rests, goes}
+use Rattle.psg_run.specs.Editing.{Editor, IsReplied}
+use Rattle.psg_run.specs.Live.{IsRepliedLive, heard, with_input}
+use Rattle.psg_run.specs.Promise.{Form, IsRunOf, check, edit, live, gen}
+use Rattle.psg_run.specs.Reading.{IsAccepted, most_definition_bytes, most_script_bytes}
+use Rattle.psg_run.specs.Worlds.{IsFrontOf, World, with_failed_read}
+
+-- ---- one output
+
+module _ (def : Definition) where
+  -- what the files answered at a line; nothing, where it asked nothing
+  abbrev pub answer_in : {s t : State} {line : List ℕ} {before after : Outside} {from to : ℕ} {reply : Reply}
+      → HasAnswered def s t line before after from to reply → Answer
+  answer_in (to_nothing none state files count is) = not_asked
+  answer_in (to_command command spells applied) = applied.answer
+
+  -- what the files answered, line by line
+  abbrev pub answers_in : {s t : Point Editor} {lines : List (List ℕ)} {texts : List ℕ}
+      → Runs Editor (IsReplied def) s lines texts t → List Answer
+  answers_in rests = []
+  answers_in (goes mid text texts line more) = answer_in line.0.answers ∷ answers_in more
+
+  -- Lines that lead from one state, with the same answers of the files, get the same replies and lead to one state. With
+  -- fewer lines and the first of the answers, they get a front of the replies.
+  pub record HasOneOutput : Type 0 where
+    pub whole : (s s' t t' : Point Editor) (lines : List (List ℕ)) (texts texts' : List ℕ)
+        (a : Runs Editor (IsReplied def) s lines texts t) (b : Runs Editor (IsReplied def) s' lines texts' t')
+        → s'.state.state ≡ s.state.state → answers_in b ≡ answers_in a → (texts' ≡ texts) × (t'.state.state ≡ t.state.state)
+    pub front : (s s' t t' : Point Editor) (first more : List (List ℕ)) (texts texts' : List ℕ)
+        (answers : List Answer)
+        (a : Runs Editor (IsReplied def) s first texts t) (b : Runs Editor (IsReplied def) s' (first ++ more) texts' t')
+        → s'.state.state ≡ s.state.state → answers_in b ≡ answers_in a ++ answers → IsFrontOf texts texts'
+
+  -- ---- some output
+
+  -- Of the calls of the files those fail for which this says so, in order; after its end none fails.
+  abbrev pub FailBy : List Bool → List Answer → Type 0
+  FailBy fails [] = Unit {0}
+  FailBy fails (not_asked ∷ answers) = FailBy fails answers
+  FailBy [] (lost ∷ answers) = ⊥
+  FailBy [] (stored ∷ answers) = FailBy [] answers
+  FailBy [] (got bytes ∷ answers) = FailBy [] answers
+  FailBy (true ∷ fails) (lost ∷ answers) = FailBy fails answers
+  FailBy (true ∷ fails) (stored ∷ answers) = ⊥
+  FailBy (true ∷ fails) (got bytes ∷ answers) = ⊥
+  FailBy (false ∷ fails) (lost ∷ answers) = ⊥
+  FailBy (false ∷ fails) (stored ∷ answers) = FailBy fails answers
+  FailBy (false ∷ fails) (got bytes ∷ answers) = FailBy fails answers
+
+  -- the lines have replies from here on, while these calls of the files fail
+  pub record HasReplies (s : Point Editor) (lines : List (List ℕ)) (fails : List Bool) : Type 0 where
+    pub texts : List ℕ
+    pub end : Point Editor
+    pub runs : Runs Editor (IsReplied def) s lines texts end
+    pub fail : FailBy fails (answers_in runs)
+
+  -- From a state whose trees are printable and of their kinds no lines lack replies, whatever the files hold, and
+  -- whichever of their calls fail.
+  abbrev pub HasSomeOutput : Type 0
+  HasSomeOutput = (s : Point Editor) (lines : List (List ℕ)) (fails : List Bool) → IsFormedState def s.state.state
+      → CannotLack (HasReplies s lines fails)
+
+  -- ---- the states on the way
+
+  -- Lines lead from a state whose trees are printable and of their kinds to such a state.
+  abbrev pub KeepsForms : Type 0
+  KeepsForms = (s t : Point Editor) (lines : List (List ℕ)) (texts : List ℕ)
+      → Runs Editor (IsReplied def) s lines texts t → IsFormedState def s.state.state → IsFormedState def t.state.state
+
+-- ---- the lines of an input, and a script that is made
+
+-- what the editor is given for the lines of an input, in order
+abbrev pub live_lines : List (List ℕ) → List (List ℕ)
+live_lines [] = []
+live_lines (piece ∷ pieces) = heard piece ++ live_lines pieces
+
+-- Lines that are read from an input are replied to as those of a script.
+abbrev pub RepliesAlike : Definition → Type 0
+RepliesAlike def = (s t : Point Editor) (pieces : List (List ℕ)) (texts : List ℕ)
+    → Runs Editor (IsRepliedLive def) s pieces texts t
+    → Runs Editor (IsReplied def) (with_input s t.input) (live_lines pieces) texts t
+
+-- `gen` leaves the files as they were.
+abbrev pub LeavesFiles : Type 0
+LeavesFiles = (number : ℕ) (old new : World) (status : Status) → IsRunOf (gen number) old new status
+    → new.files ≡ old.files
+
+-- ---- runs for which nothing goes wrong outside
+
+-- the file is known, and short enough for this limit
+pub record IsShort (world : World) (file : Name) (limit : ℕ) : Type 0 where
+  pub held : Held
+  pub known : world.files.held ≡ Some held
+  pub short : length (bytes_of held file) ≤ limit
+
+-- the file is known, short enough, and an accepted definition
+pub record HasDefinition (world : World) (file : Name) : Type 0 where
+  pub held : Held
+  pub known : world.files.held ≡ Some held
+  pub short : length (bytes_of held file) ≤ most_definition_bytes
+  pub def : Definition
+  pub accepted : IsAccepted (bytes_of held file) def
+
+-- The run did not end at its own read of the file. A read by a command may fail.
+abbrev pub WasRead : World → World → Name → Type 0
+WasRead old new file = new ≡ with_failed_read old file → ⊥
+
+-- The definition is accepted, the files are short, the run's own reads of them and of the input did not fail, and the
+-- sink's count has not risen.
+abbrev pub GoesWell : Form → World → World → Type 0
+GoesWell (check d) old new = HasDefinition old d × WasRead old new d × (HasRisen old.count new.count → ⊥)
+GoesWell (edit d s) old new =
+    HasDefinition old d × WasRead old new d × IsShort old s most_script_bytes × WasRead old new s
+    × (HasRisen old.count new.count → ⊥)
+GoesWell (live d) old new =
+    HasDefinition old d × WasRead old new d × (new.input.missed ≡ old.input.missed)
+    × (HasRisen old.count new.count → ⊥)
+GoesWell (gen number) old new =
+    ((def : Definition) × IsAccepted MINI.now def) × (HasRisen old.count new.count → ⊥)
+
+-- Where nothing goes wrong outside, the run ends well, or memory ran out.
+abbrev pub EndsWell : Type 0
+EndsWell = (form : Form) (old new : World) (status : Status) → IsRunOf form old new status → GoesWell form old new
+    → (status ≡ ends_with.Done) ⊎ (status ≡ ends_with.Memory)
+
+-- Two runs of one script on the definition that ended well, over files that held the same and none of whose calls
+-- failed, wrote the same and left the same in the files.
+abbrev pub HasOneRun : Definition → Type 0
+HasOneRun def = (definition script : Name) (held : Held) (old new old' new' : World)
+    → IsAccepted (bytes_of held definition) def
+    → IsRunOf (edit definition script) old new ends_with.Done → IsRunOf (edit definition script) old' new' ends_with.Done
+    → old.files.held ≡ Some held → old'.files.held ≡ Some held
+    → new.files.entries ≡ old.files.entries → new'.files.entries ≡ old'.files.entries
+    → (output : List ℕ) × (new.written ≡ append_known old.written output)
+    × (new'.written ≡ append_known old'.written output) × (new'.files.held ≡ new.files.held)
