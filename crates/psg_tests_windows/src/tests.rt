@@ -1,0 +1,4 @@
+//! Where the cursors of the windows are after commands.
+mod commands;
+mod moving;
+mod resolving;

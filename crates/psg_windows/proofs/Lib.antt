@@ -1,0 +1,4 @@
+pub mod Cases
+pub mod Keeping
+pub mod Walks
+pub mod Places
