@@ -1,0 +1,10 @@
+pub mod Sheets
+pub mod Pages
+pub mod PutSpans
+pub mod Arranged
+pub mod Layouts
+pub mod Laws
+pub mod Looked
+pub mod Walking
+pub mod Rules
+pub mod Reading

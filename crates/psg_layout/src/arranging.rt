@@ -1,0 +1,72 @@
+//! Arranging a tree.
+ghost use Rattle.std.specs.Prelude.{◌≡◌, IfOk, None};
+ghost use Rattle.std.specs.List.{AllByRecursion};
+ghost use Rattle.psg_grammar.specs.Sound.{IsSound};
+ghost use Rattle.psg_grammar.specs.WellFormed.{WellFormed, fixed_words};
+ghost use Rattle.psg_grammar.specs.declared.types.Kind.{Kind};
+ghost use Rattle.psg_lexis.specs.Tokens.{IsFixedWord};
+ghost use Rattle.psg_class.specs.Class.{IsClass};
+ghost use Rattle.psg_unparse.specs.Rows.{row};
+ghost use Rattle.psg_unparse.specs.Spaced.{AreSpaced};
+ghost use Rattle.psg_layout.specs.Arranged.{arranged_in, arranged_puts};
+ghost use Rattle.psg_layout.specs.Laws.{ReadsBackArranged};
+
+use crate::layout::Layout;
+use crate::nodes::spans_of;
+use crate::rules::Rules;
+use crate::walk::{Plan, write_whole};
+use psg_grammar::Definition;
+use psg_terms::Txt;
+use psg_tree::Tree;
+use psg_unparse::Printed;
+use std::alloc::{AllocError, Global};
+
+/// Arranges the tree for the columns: returns its text, and the spans of its nodes.
+///
+/// If a node's operator is a group and its plain text has no line feed and fits on its line, the node is written as
+/// plain text, with all in it. Otherwise each of its break items begins a line, indented two spaces more than the line
+/// on which the node begins. A break item without a token breaks nothing. The plain text is that of `psg_unparse`.
+///
+/// The tokens of the text are those of the tree, and gaps keep them apart (`spaced`). So the text of a printable tree
+/// reads back as the tree (`back`). A span has the bytes from the first token of a node to the end of its last one.
+///
+/// It returns out of memory also where 32 bits do not count the children of a node, and where 64 bits do not count the
+/// columns. It walks over the tree twice, the first time to see how wide its nodes are, and takes time linear in both
+/// texts and in the paths of the nodes. It calls itself once for each level of the tree.
+pub fn arrange(
+    alloc: Global,
+    definition: &Definition,
+    layout: &Layout,
+    tree: &Tree,
+    cols: u32,
+) -> Result<Printed, AllocError>
+    requires sound { IsSound definition.now }
+    requires formed { (kind : Kind) × WellFormed definition.now tree.now kind }
+    ensures arranged { IfOk result (λ printed. printed ≡ arranged_in definition.now layout.now cols tree.now) }
+    ensures spaced { IfOk result (λ _. AreSpaced None (row definition.now tree.now)
+        (arranged_puts definition.now layout.now cols tree.now)) }
+    ensures back { IfOk result (λ _. IsClass definition.now
+        → AllByRecursion IsFixedWord (fixed_words definition.now)
+        → ReadsBackArranged definition.now layout.now cols tree.now) }
+{
+    let rules = Rules::of(alloc, layout)?;
+    let counting = Plan {
+        definition,
+        rules: &rules,
+        plain: &[],
+        cols,
+        counts: true,
+    };
+    let plain = write_whole(alloc, &counting, true, tree)?;
+    let plan = Plan {
+        definition,
+        rules: &rules,
+        plain: plain.nodes.as_slice(),
+        cols,
+        counts: false,
+    };
+    let made = write_whole(alloc, &plan, false, tree)?;
+    let text = Txt::of(alloc, made.sheet.out)?;
+    let spans = spans_of(alloc, made.nodes)?;
+    Ok(Printed { text, spans })
+}

@@ -1,0 +1,120 @@
+//! The end of a text: its line feeds, and its last line.
+ghost use Rattle.std.specs.Prelude.{◌≡◌, ◌∷◌, [], OnOk, ℕ, List, chars, replicate};
+ghost use Rattle.psg_layout.specs.Pages.{last_line, spaces_before, width_of};
+ghost use Rattle.psg_layout.specs.Sheets.{gap_bytes, IsEnd, PutsChars};
+
+use crate::gap::{Gap, sum};
+use std::alloc::AllocError;
+use unicode_width::UnicodeWidthChar;
+
+/// What is known of the end of a text.
+#[derive(Clone, Copy)]
+pub(crate) struct LineEnd {
+    /// How many line feeds the text has.
+    pub(crate) feeds: usize,
+    /// The columns of its last line.
+    pub(crate) columns: usize,
+    /// How many spaces are in front on its last line, where that has other characters after them.
+    pub(crate) front: Option<usize>,
+}
+
+/// Returns the columns that the character takes by itself.
+fn width(c: char) -> usize
+    ensures { result ≡ width_of c }
+{
+    match c.width() {
+        Some(width) => width,
+        None => 0,
+    }
+}
+
+impl LineEnd {
+    /// Returns the end of the empty text.
+    pub(crate) fn new() -> LineEnd
+        ensures { IsEnd result [] }
+    {
+        LineEnd {
+            feeds: 0,
+            columns: 0,
+            front: None,
+        }
+    }
+
+    /// Returns how many spaces are in front on the last line.
+    pub(crate) fn spaces(&self) -> usize
+        ensures { (cs : List ℕ) → IsEnd self.now cs → result ≡ spaces_before (last_line cs) }
+    {
+        match self.front {
+            Some(spaces) => spaces,
+            None => self.columns,
+        }
+    }
+
+    /// Puts a line feed at the end.
+    fn put_feed(&mut self) -> Result<(), AllocError>
+        ensures { OnOk result (PutsChars (10 ∷ []) self.old self.new) }
+    {
+        self.feeds = sum(self.feeds, 1)?;
+        self.columns = 0;
+        self.front = None;
+        Ok(())
+    }
+
+    /// Puts spaces at the end.
+    fn put_spaces(&mut self, spaces: usize) -> Result<(), AllocError>
+        ensures { OnOk result (PutsChars (replicate spaces 32) self.old self.new) }
+    {
+        self.columns = sum(self.columns, spaces)?;
+        Ok(())
+    }
+
+    /// Puts a character at the end that is no line feed and no space.
+    fn put_mark(&mut self, c: char) -> Result<(), AllocError>
+        requires feed { c ≡ 10 → ⊥ }
+        requires space { c ≡ 32 → ⊥ }
+        ensures { OnOk result (PutsChars (c ∷ []) self.old self.new) }
+    {
+        self.front = Some(self.spaces());
+        self.columns = sum(self.columns, width(c))?;
+        Ok(())
+    }
+
+    /// Puts a character at the end.
+    pub(crate) fn put(&mut self, c: char) -> Result<(), AllocError>
+        ensures { OnOk result (PutsChars (c ∷ []) self.old self.new) }
+    {
+        if c == '\n' {
+            self.put_feed()?;
+            return Ok(());
+        }
+        if c == ' ' {
+            self.put_spaces(1)?;
+            return Ok(());
+        }
+        self.put_mark(c)?;
+        Ok(())
+    }
+
+    /// Puts a text at the end.
+    pub(crate) fn put_str(&mut self, text: &str) -> Result<(), AllocError>
+        ensures { OnOk result (PutsChars (chars text.now) self.old self.new) }
+    {
+        for c in text.chars() {
+            self.put(c)?;
+        }
+        Ok(())
+    }
+
+    /// Puts a gap at the end.
+    pub(crate) fn put_gap(&mut self, gap: Gap) -> Result<(), AllocError>
+        ensures { OnOk result (PutsChars (gap_bytes gap) self.old self.new) }
+    {
+        if gap.feed {
+            self.put_feed()?;
+            self.put_spaces(gap.spaces)?;
+            return Ok(());
+        }
+        self.put_spaces(gap.spaces)?;
+        Ok(())
+    }
+}

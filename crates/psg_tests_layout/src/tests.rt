@@ -1,0 +1,4 @@
+//! Layouts of MINI.
+mod arranged;
+mod languages;
+mod refused;
