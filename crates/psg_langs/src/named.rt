@@ -115,3 +115,110 @@ case cons(?B,?S) by [hole(Item,?B)|hole(Items,?S)]
 declare Items one : one by a($it)
 declare Items two : two by b($it)
 ";
+
+/// The language of definitions: a program is the lines of a definition file, with names of sorts, constructors, phyla,
+/// operators and variables in spaces of their own.
+pub const SELF: &str = "psg 2
+sort Unit = ok
+space sorts : Unit
+space cons : Unit
+space kinds : Unit
+space ops : Unit
+space vars : Unit
+phylum Line : Unit
+phylum Con : Unit
+phylum Arg : Unit
+phylum Level : Unit
+phylum Item : Unit
+phylum Row : Unit
+phylum Term : Unit
+phylum Spec : Unit
+list Lines : Unit of Line \";\" lines unfinished
+list Cons : Unit of Con \",\" inline fixed
+list Args : Unit of Arg \",\" inline fixed
+list Items : Unit of Item \",\" inline unfinished
+list Rows : Unit of Row \"|\" lines unfinished
+list Terms : Unit of Term \",\" inline unfinished
+list Specs : Unit of Spec \",\" inline unfinished
+op sortline : Line = \"sort\" declares@sorts \"=\" Cons
+row ok : ok ok
+op phyline : Line = \"phylum\" declares@kinds \":\" refers@sorts
+row ok : ok ok
+op brkline : Line = \"bracketed\" declares@kinds \":\" refers@sorts
+row ok : ok ok
+op opline : Line = \"op\" declares@ops \":\" refers@kinds Level \"=\" Items \"rows\" Rows
+row ok : ok ok ok ok ok
+op holeline : Line = \"hole\" refers@kinds Term \"by\" Spec
+row ok : ok ok ok
+op con : Con = declares@cons tight \"(\" tight Args tight \")\"
+row ok : ok ok
+op arg : Arg = refers@sorts
+row ok : ok
+op lplain : Level = \"plain\"
+row ok
+op lpre : Level = \"prefix\" number
+row ok
+op lpost : Level = \"postfix\" number
+row ok
+op linl : Level = \"infixl\" number
+row ok
+op linr : Level = \"infixr\" number
+row ok
+op linn : Level = \"infix\" number
+row ok
+op iword : Item = text
+row ok
+op islot : Item = refers@kinds
+row ok : ok
+op ispace : Item = \"space\"
+row ok
+op itight : Item = \"tight\"
+row ok
+op iline : Item = \"line\"
+row ok
+op iin : Item = \"in\"
+row ok
+op iout : Item = \"out\"
+row ok
+op rowline : Row = \"row\" Term \":\" Terms
+row ok : ok ok
+op tcon : Term = refers@cons tight \"(\" tight Terms tight \")\"
+row ok : ok ok
+op tvar : Term = \"%\" tight refers@vars
+row ok : ok
+op spec : Spec = refers@ops tight \"(\" tight Specs tight \")\"
+row ok : ok ok
+nil Lines ok
+cell Lines ok : ok ok
+nil Cons ok
+cell Cons ok : ok ok
+nil Args ok
+cell Args ok : ok ok
+nil Items ok
+cell Items ok : ok ok
+nil Rows ok
+cell Rows ok : ok ok
+nil Terms ok
+cell Terms ok : ok ok
+nil Specs ok
+cell Specs ok : ok ok
+hole Line ok by phyline($a,$b)
+hole Con ok by con($a,[])
+hole Arg ok by arg($a)
+hole Level ok by lplain
+hole Item ok by ispace
+hole Row ok by rowline(tvar($a),[])
+hole Term ok by tvar($a)
+hole Spec ok by spec($a,[])
+hole Lines ok by []
+hole Cons ok by []
+hole Args ok by []
+hole Items ok by []
+hole Rows ok by []
+hole Terms ok by []
+hole Specs ok by []
+declare@sorts Lines ok : ok by sortline($it,[])
+declare@cons Lines ok : ok by sortline($a,[con($it,[])])
+declare@kinds Lines ok : ok by phyline($it,$a)
+declare@ops Lines ok : ok by opline($it,$a,lplain,[],[])
+";

@@ -1,5 +1,5 @@
 //! The texts, by their sizes and their Adler-32 sums.
-use psg_langs::{CONSTS, LEVELS, MINI, TINY};
+use psg_langs::{CONSTS, LEVELS, MINI, SELF, TINY};
 
 /// The Adler-32 sum of a text.
 fn sum_of(text: &str) -> u64 {
@@ -18,6 +18,7 @@ fn texts_as_published(rt: HostRuntime) {
         (CONSTS, 14, 286, 2_069_321_836),
         (LEVELS, 34, 862, 3_323_924_808),
         (MINI, 88, 2524, 3_259_573_640),
+        (SELF, 103, 2627, 3_332_791_350),
         (TINY, 20, 454, 553_095_259),
     ];
     for (text, lines, bytes, sum) in texts {
