@@ -9,7 +9,7 @@ use Rattle.psg_script.specs.declared.command.Command.TheVariants.{Keep, Fetch}
 use Rattle.psg_script.specs.Forms.{Spells}
 use Rattle.psg_script.specs.Script.{numbers_down, declare_lines, assign_lines, script_lines as made_lines}
 use Rattle.psg_session.specs.Applied.{IsAskedBy}
-use Rattle.psg_session.specs.Exchanges.{Asked, IsAnswered, IsCutOff, Outside, nobody}
+use Rattle.psg_session.specs.Exchanges.{Asked, IsAnswered, Outside, nobody}
 use Rattle.psg_session.specs.Kept.{Asks}
 use Rattle.psg_session.specs.Lines.{HasAnswered, HasBroken, at_command, at_line, to_command, to_nothing}
 use Rattle.psg_session.specs.PlainState.{Answer, State}
@@ -103,12 +103,6 @@ not_answered : (def : Definition) (s : State) (command : Command) {before after 
 not_answered def s command (Some asked) never asks answers = absurd (never asked asks)
 not_answered def s command None never asks (nobody same) = same
 
-not_cut_off : (def : Definition) (s : State) (command : Command) {before after : Outside} (asked : Option Asked)
-    → ((a : Asked) → Asks def s command a → ⊥) → IfSome asked (Asks def s command) → IsCutOff before after asked
-    → after ≡ before
-not_cut_off def s command (Some asked) never asks cut = absurd (never asked asks)
-not_cut_off def s command None never asks cut = cut
-
 line_leaves : {def : Definition} {s t : State} {line : List ℕ} {before after : Outside} {from to : ℕ} {reply : Reply}
     → AsksNothing line → HasAnswered def s t line before after from to reply → after ≡ before
 line_leaves quiet (to_nothing none state files count is) = files
@@ -118,8 +112,7 @@ line_leaves {def = def} {s = s} quiet (to_command command spells applied) =
 broken_leaves : {def : Definition} {s : State} {line : List ℕ} {before after : Outside} {from to : ℕ}
     → AsksNothing line → HasBroken def s line before after from to → after ≡ before
 broken_leaves quiet (at_line files count) = files
-broken_leaves {def = def} {s = s} quiet (at_command command spells stopped) =
-    not_cut_off def s command stopped.asked (λ asked. quiet def s command asked spells) stopped.asks stopped.cut_off
+broken_leaves quiet (at_command command spells stopped) = stopped.files
 
 front_leaves : {bytes : List ℕ} {old new : World} {status : Status} → PutsFront bytes old new status
     → new.files ≡ old.files

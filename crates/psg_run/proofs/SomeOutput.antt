@@ -4,7 +4,7 @@ use Rattle.std.proofs.Common.{Some, None, IfSome, option_map, refl, arith}
 use Rattle.std.specs.FinMap as map
 use Rattle.std.specs.List.{AllByRecursion}
 use Rattle.psg_terms.specs.Names.{Name}
-use Rattle.psg_world.specs.Files.{bytes_of, front_of, Held, OthersStand, reading, writing}
+use Rattle.psg_world.specs.Files.{bytes_of, front_of, Held, reading, writing}
 use Rattle.psg_grammar.specs.declared.types.Definition.{Definition}
 use Rattle.psg_grammar.specs.Legal.{IsCompletable}
 use Rattle.psg_grammar.specs.Sound.{IsSound}
@@ -56,10 +56,6 @@ got_known : (known : Option Held) (file : Name)
 unfolding got_of
 got_known None file = tt
 got_known (Some held) file = refl
-
-others_same : (known : Option Held) (file : Name) → OthersStand file known known
-others_same None file = refl
-others_same (Some held) file = λ other apart. refl
 
 abbrev files_with : Outside → Name → List ℕ → Outside
 files_with files file bytes = record {
@@ -153,7 +149,7 @@ module _ (def : Definition) (some : HasSomeStep def (IsCompletable def))
         → (HasReplies def s (line ∷ rest) (true ∷ left) → ⊥) → ⊥
     badly (keeping file bytes) left asks none =
         by_answer (Some (keeping file bytes)) lost (files_without s.files file) (true ∷ left) left asks
-        (loses_keep (others_same s.files.held file) refl) refl (λ answers h. h) none
+        (loses_keep refl refl) refl (λ answers h. h) none
     badly (fetching file) left asks none =
         by_answer (Some (fetching file)) lost (files_unread s.files file) (true ∷ left) left asks
         (loses_fetch refl refl) refl (λ answers h. h) none

@@ -5,7 +5,7 @@ use Rattle.std.specs.List.{AllByRecursion}
 use Rattle.std.specs.FinMap as map
 use Rattle.std.proofs.lemmas.Option.{none-some}
 use Rattle.psg_terms.specs.Names.{Name}
-use Rattle.psg_world.specs.Files.{Entry, Held, reading, writing, bytes_of as held_bytes, front_of, OthersStand}
+use Rattle.psg_world.specs.Files.{Entry, Held, reading, writing, bytes_of as held_bytes, front_of}
 use Rattle.psg_grammar.specs.declared.types.Definition.{Definition}
 use Rattle.psg_grammar.specs.Sizes.{IsBig}
 use Rattle.psg_grammar.specs.Sound.{IsSound}
@@ -158,7 +158,7 @@ module _ (def : Definition) (e : Editor) (name file : Name) (before after : Outs
         ticked = counts_nothing def (state_of e) stored (Keep name file) count refl refl;
       }
 
-      pub keep_lost : OthersStand file before.held after.held → after.entries ≡ before.entries ++ writing file ∷ []
+      pub keep_lost : after.held ≡ before.held → after.entries ≡ before.entries ++ writing file ∷ []
           → Keeps (Stays (Refused ShelfFault))
       keep_lost held entries = record {
         asked = Some (keeping file (bytes_of def x));
@@ -172,12 +172,11 @@ module _ (def : Definition) (e : Editor) (name file : Name) (before after : Outs
         ticked = counts_nothing def (state_of e) lost (Keep name file) count refl refl;
       }
 
-      pub keep_stopped : OthersStand file before.held after.held → after.entries ≡ before.entries
-          → HasStopped def (state_of e) (Keep name file) before after count count
-      keep_stopped held entries = record {
+      pub keep_stopped : after ≡ before → HasStopped def (state_of e) (Keep name file) before after count count
+      keep_stopped same = record {
         asked = Some (keeping file (bytes_of def x));
         asks = keep_asks;
-        cut_off = (held, entries);
+        files = same;
         answer = not_asked;
         got = refl;
         ticked = counts_nothing def (state_of e) not_asked (Keep name file) count refl refl;
@@ -189,7 +188,7 @@ pub stopped_alone : (def : Definition) (s : State) (command : Command) (before a
 stopped_alone def s command before after from to same h = record {
   asked = None;
   asks = tt;
-  cut_off = same;
+  files = same;
   answer = not_asked;
   got = refl;
   ticked = ticked_alone def s command from to h;
@@ -319,7 +318,7 @@ module _ (def : Definition) (e : Editor) (file : Name) (before after : Outside) 
     fetch_stopped = record {
       asked = Some (fetching file);
       asks = refl;
-      cut_off = same;
+      files = same;
       answer = got bytes;
       got = (short, are);
       ticked = ticked_reading def (state_of e) bytes file from to counts;

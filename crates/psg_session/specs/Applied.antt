@@ -1,12 +1,12 @@
 -- What a command does to an editor, as the plain editor does it.
-use Rattle.std.specs.Prelude.{ℕ, Option, Some, None, IfSome}
+use Rattle.std.specs.Prelude.{ℕ, ◌≡◌, Option, Some, None, IfSome}
 use Rattle.psg_grammar.specs.declared.types.Definition.{Definition}
 use Rattle.psg_grammar.specs.Legal.{IsCompletable}
 use Rattle.psg_script.specs.declared.command.Command.{Command}
 use Rattle.psg_session.specs.PlainState.{State, Answer}
 use Rattle.psg_session.specs.PlainStep.{Steps}
 use Rattle.psg_session.specs.Replies.{Reply, refused, answered}
-use Rattle.psg_session.specs.Exchanges.{Asked, Outside, IsAnswered, IsCutOff, MayGet}
+use Rattle.psg_session.specs.Exchanges.{Asked, Outside, IsAnswered, MayGet}
 use Rattle.psg_session.specs.Kept.{Asks}
 use Rattle.psg_session.specs.Ticks.{HasTickedWith}
 
@@ -31,12 +31,12 @@ pub record HasApplied (def : Definition) (s t : State) (command : Command) (befo
   pub steps : Steps def (IsCompletable def) s answer command t reply
   pub ticked : HasTickedWith def s answer command from to
 
--- Memory ran out, perhaps after the command had asked.
+-- Memory ran out, perhaps after the command had asked. The files are as before.
 pub record HasStopped (def : Definition) (s : State) (command : Command) (before after : Outside) (from to : ℕ)
     : Type 0 where
   pub asked : Option Asked
   pub asks : IfSome asked (Asks def s command)
-  pub cut_off : IsCutOff before after asked
+  pub files : after ≡ before
   pub answer : Answer
   pub got : MayGet before asked answer
   pub ticked : HasTickedWith def s answer command from to

@@ -42,8 +42,8 @@ fn named_line(alloc: Global, word: &str, name: &str) -> Result<Vec<String>, Allo
 
 /// Finds what `keep` does: the saved fragment of the name is written to the file. It is refused with `NoFragment` where
 /// no saved fragment has the name, with `TooBig` where its bytes are more than a file may have, and with `ShelfFault`
-/// where the file is not written. It fails where memory runs out; of the file nothing is known then. Its time is that
-/// of printing the fragment and of the write.
+/// where the file is not written. It fails where memory runs out. Where it does not end with a reply, each file is as
+/// before. Its time is that of printing the fragment and of the write.
 pub fn keep<F: Files>(
     alloc: Global,
     language: &LanguageParts,
@@ -78,7 +78,7 @@ pub fn keep<F: Files>(
         return Err(Stop::Refused(Refusal::TooBig));
     }
     let to = file.as_str();
-    match files.write(alloc, to, shown) {
+    match files.replace(alloc, to, shown) {
         Ok(()) => Ok(Outcome::Stays(Reply::Answered(lines))),
         Err(WriteStop::Failed) => Err(Stop::Refused(Refusal::ShelfFault)),
         Err(WriteStop::Memory) => Err(Stop::Memory),

@@ -1,15 +1,15 @@
 use Rattle.std.proofs.Common.{◌≡◌, ◌<◌, ◌≤◌, [], ◌∷◌, ◌++◌, List, ℕ, length, Some, Err, refl, option_map, sym, ap, ap₂, ◌∙◌, subst}
-use Rattle.std.specs.Prelude.{codes, option_copied}
+use Rattle.std.specs.Prelude.{codes, option_copied, OnErr}
 use Rattle.std.specs.FinMap as map
 use Rattle.psg_terms.specs.Names.{Name}
-use Rattle.psg_world.specs.Files.{Held, entries_after_write, OthersStand, writing}
+use Rattle.psg_world.specs.Files.{Held, entries_after_write, writing}
 use Rattle.psg_library.specs.declared.fragment.SavedFragment.{SavedFragment as Saved}
 use Rattle.psg_library.specs.Keeping.{bytes_of}
 use Rattle.psg_library.proofs.Written.{kind_there}
 use Rattle.psg_session.specs.declared.kept.TheConstants.{MOST_KEPT_BYTES}
 use Rattle.psg_session.specs.Replies.{answered}
 use Rattle.psg_session.specs.Shelf.{saved_at}
-use Rattle.psg_session.proofs.KeptLaws.{keep_long, keep_lost, keep_missing, keep_stopped, keep_stored}
+use Rattle.psg_session.proofs.KeptLaws.{keep_long, keep_lost, keep_missing, keep_stopped, keep_stored, same_outside}
 use Rattle.psg_session.proofs.Options.{only_none}
 use Rattle.psg_session.proofs.Shelving.{kept_at}
 use Rattle.psg_session.proofs.kept.keep.Goals as goal
@@ -72,9 +72,9 @@ returns-in-Err-Failed-clause-reached g c = λ count.
     ∙ ap (λ (n : Name). bytes_of def (record { name = n; kind = x.kind; tree = x.tree })) c.as_str-own_name.ensures in
     keep_lost def c.args.editor.now c.args.name.now c.args.file.now _ _ count x there
     (subst (λ l. length l ≤ MOST_KEPT_BYTES) are c.if-shown-gt-MOST_KEPT_BYTES.false)
-    (subst (λ n. OthersStand n (g.F.Files.holds c.args.files.now) (g.F.Files.holds c.write.new.self)) c.as_str-to.ensures
-    c.write.ensures.others)
-    (c.write.ensures.entries
+    (subst (λ r. OnErr r (g.F.Files.holds c.replace.new.self ≡ g.F.Files.holds c.args.files.now))
+    (c.in-Err-Failed.is ∙ ap Err c.in-Err-Failed.field-0-is) c.replace.ensures.keeps)
+    (c.replace.ensures.entries
     ∙ ap (entries_after_write (g.F.Files.faults c.args.files.now) c.as_str-to.result.now)
     (c.in-Err-Failed.is ∙ ap Err c.in-Err-Failed.field-0-is)
     ∙ ap (λ (n : Name). g.F.Files.faults c.args.files.now ++ writing n ∷ []) c.as_str-to.ensures)
@@ -91,8 +91,9 @@ returns-clause-stopped g c = λ count.
     ∙ ap (λ (n : Name). bytes_of def (record { name = n; kind = x.kind; tree = x.tree })) c.as_str-own_name.ensures in
     keep_stopped def c.args.editor.now c.args.name.now c.args.file.now _ _ count x there
     (subst (λ l. length l ≤ MOST_KEPT_BYTES) are c.if-shown-gt-MOST_KEPT_BYTES.false)
-    (subst (λ n. OthersStand n (g.F.Files.holds c.args.files.now) (g.F.Files.holds c.write.new.self)) c.as_str-to.ensures
-    c.write.ensures.others)
-    (c.write.ensures.entries
+    (same_outside
+    (subst (λ r. OnErr r (g.F.Files.holds c.replace.new.self ≡ g.F.Files.holds c.args.files.now))
+    (c.in-Err-Memory.is ∙ ap Err c.in-Err-Memory.field-0-is) c.replace.ensures.keeps)
+    (c.replace.ensures.entries
     ∙ ap (entries_after_write (g.F.Files.faults c.args.files.now) c.as_str-to.result.now)
-    (c.in-Err-Memory.is ∙ ap Err c.in-Err-Memory.field-0-is))
+    (c.in-Err-Memory.is ∙ ap Err c.in-Err-Memory.field-0-is)))
