@@ -20,7 +20,7 @@ module _ (S : Type 0) where
   first_point state old = record { state = state; files = old.files; input = old.input; ticks = old.ticks }
 
   -- The world at this point of a run that began in the old one and wrote these bytes. The count is that of the beginning,
-  -- so a fault of the sink is one since then.
+  -- so a fault of the sink counts if it happened since the run began.
   abbrev pub world_at : World → List ℕ → Point S → World
   world_at old texts t = record {
     files = t.files;
