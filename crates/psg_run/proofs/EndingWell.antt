@@ -12,12 +12,16 @@ use Rattle.psg_world.specs.Sinks.{HasRisen}
 use Rattle.psg_session.specs.Replies.{feed}
 use Rattle.psg_run.specs.declared.status.Status.{Status}
 use Rattle.psg_run.specs.declared.status.Status.TheVariants as ends_with
+use Rattle.psg_layout.specs.declared.layout.Layout.{Layout}
+use Rattle.psg_layout.specs.Layouts.{LayoutRefusal}
+use Rattle.psg_run.specs.Arranging.{Arranges, ArrangesBy, ReadsLayout, is_bad_line, is_layout, most_layout_bytes}
+use Rattle.psg_run.specs.Arranging.{no_room_for_layout, no_room_to_arrange, tells_arranged}
 use Rattle.psg_run.specs.Chain.{Point, Runs, breaks, closes, goes, is_played, no_room_to_begin, puts_front, rests}
 use Rattle.psg_run.specs.Editing.{Edits, Editor}
 use Rattle.psg_run.specs.Generated.{Generates, no_room_to_tell, tells}
 use Rattle.psg_run.specs.Live.{EndsInput, IsRepliedLive, Talks, is_at_end, is_unread_line, no_room_for_line}
-use Rattle.psg_run.specs.Outputs.{EndsWell, HasDefinition, IsShort, WasRead}
-use Rattle.psg_run.specs.Promise.{check, edit, live, gen}
+use Rattle.psg_run.specs.Outputs.{EndsWell, HasDefinition, HasLayout, IsShort, WasRead}
+use Rattle.psg_run.specs.Promise.{check, edit, live, gen, layout}
 use Rattle.psg_run.specs.Reading.{Defines, IsAccepted, IsRefusalLine, Reads, is_accepted, is_long, is_read, is_refused}
 use Rattle.psg_run.specs.Reading.{is_unread, most_definition_bytes, most_script_bytes, no_definition}
 use Rattle.psg_run.specs.Reading.{no_room_for_definition, no_room_for_file, not_accepted}
@@ -91,6 +95,20 @@ module _ (old new : World) (sink : HasRisen old.count new.count → ⊥) where
   gen_well def number status (is_played first left texts last split runs (breaks t broken wrote)) = inr refl
   gen_well def number status (no_room_to_begin same) = inr refl
 
+  arranges_well : (def : Definition) (by : Layout) (columns : ℕ) (lines : List (List ℕ)) (status : Status)
+      → Arranges def by columns lines old new status → IsWell status
+  arranges_well def by columns lines status
+      (is_played first left texts last split runs (closes t text ended tells_arranged puts)) =
+      puts_well (inl refl) sink puts
+  arranges_well def by columns lines status
+      (is_played first left texts last split runs (closes t text ended no_room_to_arrange puts)) =
+      puts_well (inr refl) sink puts
+  arranges_well def by columns lines status
+      (is_played first left texts last split runs (puts_front t text played front)) =
+      front_well sink front
+  arranges_well def by columns lines status (is_played first left texts last split runs (breaks t broken wrote)) = inr refl
+  arranges_well def by columns lines status (no_room_to_begin same) = inr refl
+
   -- no line that was given is missed
   none_missed : (def : Definition) {s t : Point Editor} {pieces : List (List ℕ)} {texts : List ℕ}
       → Runs Editor (IsRepliedLive def) s pieces texts t → t.input.missed ≡ s.input.missed
@@ -153,6 +171,25 @@ module _ (old new : World) (sink : HasRisen old.count new.count → ⊥) where
       reads_well has.held file most_definition_bytes (λ bytes. Defines bytes Next) status has.known has.short was
       (λ ended on. defines_well (bytes_of has.held file) has.def Next ended has.accepted next on) run
 
+  lays_well : (def : Definition) (bytes : List ℕ) (Next : Layout → Act) (status : Status)
+      → ((line code : ℕ) → LayoutRefusal def bytes line code → ⊥)
+      → ((by : Layout) (status : Status) → Next by old new status → IsWell status)
+      → ReadsLayout def bytes Next old new status → IsWell status
+  lays_well def bytes Next status faultless next (is_layout by read on) = next by status on
+  lays_well def bytes Next status faultless next (is_bad_line line code refusal puts) =
+      absurd (faultless line code refusal)
+  lays_well def bytes Next status faultless next (no_room_for_layout same) = inr refl
+
+  -- the layout's file is read, and the lines are played
+  layout_well : (definition file : Name) (def : Definition) (columns : ℕ) (lines : List (List ℕ)) (status : Status)
+      → (has : HasLayout old definition file) → IsAccepted (bytes_of has.held definition) def → WasRead old new file
+      → ArrangesBy def file columns lines old new status → IsWell status
+  layout_well definition file def columns lines status has accepted was run =
+      reads_well has.held file most_layout_bytes
+      (λ bytes. ReadsLayout def bytes (λ by. Arranges def by columns lines)) status has.known has.short was
+      (λ ended on. lays_well def (bytes_of has.held file) (λ by. Arranges def by columns lines) ended
+      (has.faultless def accepted) (λ by status told. arranges_well def by columns lines status told) on) run
+
   script_well : (script : Name) (def : Definition) (status : Status) → IsShort old script most_script_bytes
       → WasRead old new script
       → Reads script most_script_bytes (λ bytes. Edits def (script_lines bytes)) old new status → IsWell status
@@ -161,11 +198,34 @@ module _ (old new : World) (sink : HasRisen old.count new.count → ⊥) where
       short.short was
       (λ ended on. edit_well def (script_lines (bytes_of short.held script)) ended on) run
 
+-- what is known of the files is one thing
+one_held : (known : Option Held) (one other : Held) → known ≡ Some one → known ≡ Some other → one ≡ other
+one_held known one other e f = let both : Some one ≡ Some other = sym e ∙ f in cc
+
+module _ (old new : World) (sink : HasRisen old.count new.count → ⊥) where
+  -- the definition is one, the script's file and the layout's are read, and the lines are played
+  arranged_well : (d s l : Name) (columns : ℕ) (has : HasDefinition old d) → IsShort old s most_script_bytes
+      → HasLayout old d l → WasRead old new s → WasRead old new l → (status : Status)
+      → Defines (bytes_of has.held d)
+      (λ def. Reads s most_script_bytes (λ text. ArrangesBy def l columns (script_lines text))) old new status
+      → IsWell status
+  arranged_well d s l columns has short lay was_script was_lay status (is_accepted def accepted on) =
+      let here : IsAccepted (bytes_of lay.held d) def =
+      subst (λ (h : Held). IsAccepted (bytes_of h d) def) (one_held old.files.held has.held lay.held has.known lay.known)
+      accepted in
+      reads_well old new sink short.held s most_script_bytes (λ text. ArrangesBy def l columns (script_lines text)) status
+      short.known short.short was_script
+      (λ ended told. layout_well old new sink d l def columns (script_lines (bytes_of short.held s)) ended lay here was_lay
+      told) on
+  arranged_well d s l columns has short lay was_script was_lay status (is_refused line refusal puts) =
+      absurd (not_refused (bytes_of has.held d) line has.def has.accepted refusal)
+  arranged_well d s l columns has short lay was_script was_lay status (no_room_for_definition same) = inr refl
+
 pub has_ended_well : EndsWell
 has_ended_well (check d) old new status run (has, was, sink) =
     file_well old new sink d (λ def. Puts (feed (codes "accepted")) ends_with.Done) status has was
     (λ def ended puts. puts_well (inl refl) sink puts) run
-has_ended_well (edit d s) old new status run (has, was, short, was_script, sink) =
+has_ended_well (edit d s) old new status run ((has, was, short, was_script), sink) =
     file_well old new sink d (λ def. Reads s most_script_bytes (λ bytes. Edits def (script_lines bytes))) status has was
     (λ def ended on. script_well old new sink s def ended short was_script on) run
 has_ended_well (live d) old new status run (has, was, missed, sink) =
@@ -173,3 +233,8 @@ has_ended_well (live d) old new status run (has, was, missed, sink) =
 has_ended_well (gen number) old new status run ((def, accepted), sink) =
     defines_well old new sink MINI.now def (λ other. Generates other number) status accepted
     (λ other ended on. gen_well old new sink other number ended on) run
+has_ended_well (layout d s l columns) old new status run ((has, was, short, was_script), lay, was_lay, sink) =
+    reads_well old new sink has.held d most_definition_bytes
+    (λ bytes. Defines bytes (λ def. Reads s most_script_bytes (λ text. ArrangesBy def l columns (script_lines text))))
+    status has.known has.short was
+    (λ ended on. arranged_well old new sink d s l columns has short lay was_script was_lay ended on) run

@@ -1,6 +1,6 @@
 -- The lines of the script that is made for a number ask nothing of the files, so the files are kept.
 use Rattle.std.proofs.Common.{◌≡◌, ℕ, zero, suc, ◌==◌, true, false, List, [], ◌∷◌, ◌++◌, get_or, Option, Some, None}
-use Rattle.std.proofs.Common.{IfSome, true≢false, refl, sym, ◌∙◌, ap, subst}
+use Rattle.std.proofs.Common.{true≢false, refl, sym, ◌∙◌, ap, subst}
 use Rattle.std.specs.Prelude.{codes, decimal}
 use Rattle.std.specs.List.{AllByRecursion, flat_map}
 use Rattle.psg_grammar.specs.declared.types.Definition.{Definition}

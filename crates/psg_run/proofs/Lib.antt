@@ -3,7 +3,9 @@ pub mod Replied
 pub mod Onward
 pub mod Listening
 pub mod PlainLines
+pub mod Telling
 pub mod Summing
+pub mod Laying
 pub mod Feeds
 pub mod WordForms
 pub mod LineCommands
@@ -14,4 +16,6 @@ pub mod LiveLines
 pub mod EndingWell
 pub mod GenFiles
 pub mod OneRun
+pub mod ArrangedRuns
+pub mod OneArranged
 pub mod CaseRuns

@@ -27,7 +27,7 @@ use Rattle.psg_run.specs.declared.status.Status.{Status}
 use Rattle.psg_run.specs.declared.status.Status.TheVariants as ends_with
 use Rattle.psg_run.specs.Chain.{Finishes, Point, Runs, closes, first_point, goes, is_played, puts_front, rests}
 use Rattle.psg_run.specs.Editing.{BreaksOff, Edits, Editor, IsReplied, JustEnds, new_editor}
-use Rattle.psg_run.specs.Outputs.{HasOneRun}
+use Rattle.psg_run.specs.Outputs.{HasOneRunOf}
 use Rattle.psg_run.specs.Promise.{IsRunOf, edit}
 use Rattle.psg_run.specs.Reading.{Defines, IsAccepted, Reads, is_accepted, is_read, is_refused}
 use Rattle.psg_run.specs.Scripts.{script_lines}
@@ -38,7 +38,7 @@ use Rattle.psg_run.proofs.OneOutput.{stepped_once}
 
 -- ---- entries of calls that failed
 
-same_long : (before after : List Entry) → after ≡ before → length before ≤ length after
+pub same_long : (before after : List Entry) → after ≡ before → length before ≤ length after
 same_long before after e = let same : length after ≡ length before = ap length e in omega (arith, same)
 
 one_longer : (before after : List Entry) (x : Entry) → after ≡ before ++ x ∷ [] → length after ≡ length before + 1
@@ -168,12 +168,12 @@ module _ (def : Definition) (sound : IsSound def) (is_class : IsClass def) (held
 -- ---- two runs of lines
 
 module _ (def : Definition) (sound : IsSound def) (is_class : IsClass def) where
-  runs_alike : (held : Held) {s s' t t' : Point Editor} {lines : List (List ℕ)} {texts texts' : List ℕ}
+  pub runs_alike : (held : Held) {s s' t t' : Point Editor} {lines : List (List ℕ)} {texts texts' : List ℕ}
       → Runs Editor (IsReplied def) s lines texts t → Runs Editor (IsReplied def) s' lines texts' t'
       → s'.state.state ≡ s.state.state → s.files.held ≡ Some held → s'.files.held ≡ Some held
       → length t.files.entries ≤ length s.files.entries → length t'.files.entries ≤ length s'.files.entries
-      → (texts' ≡ texts) × (t'.files.held ≡ t.files.held)
-  runs_alike held rests rests e known known' few few' = (refl, known' ∙ sym known)
+      → (texts' ≡ texts) × (t'.files.held ≡ t.files.held) × (t'.state.state ≡ t.state.state)
+  runs_alike held rests rests e known known' few few' = (refl, known' ∙ sym known, e)
   runs_alike held {s = s} {s' = s'} {t = t} {t' = t'} (goes mid text texts played more)
       (goes mid' text' texts' played' more') e known known' few few' =
       let now : length s.files.entries ≤ length mid.files.entries = line_grows played.0.answers in
@@ -184,14 +184,14 @@ module _ (def : Definition) (sound : IsSound def) (is_class : IsClass def) where
       (omega (arith, few, later)) (omega (arith, few', later')) in
       let ends = runs_alike alike.held more more' alike.state alike.left alike.right (omega (arith, few, now))
       (omega (arith, few', now')) in
-      (ap₂ (λ x y. x ++ y) (played'.1 ∙ ap reply_text alike.reply ∙ sym played.1) ends.0, ends.1)
+      (ap₂ (λ x y. x ++ y) (played'.1 ∙ ap reply_text alike.reply ∙ sym played.1) ends.0, ends.1, ends.2)
 
 -- ---- runs that end well
 
-no_front : {bytes : List ℕ} {old new : World} → PutsFront bytes old new ends_with.Done → ⊥
+pub no_front : {bytes : List ℕ} {old new : World} → PutsFront bytes old new ends_with.Done → ⊥
 no_front h = elim h [ ]
 
-whole_put : {bytes : List ℕ} {ended : Status} {old new : World} → Puts bytes ended old new ends_with.Done
+pub whole_put : {bytes : List ℕ} {ended : Status} {old new : World} → Puts bytes ended old new ends_with.Done
     → Wrote bytes old new
 whole_put (put_whole wrote) = wrote
 whole_put (put_front front) = absurd (no_front front)
@@ -199,12 +199,12 @@ whole_put (put_front front) = absurd (no_front front)
 no_refusal_put : {bytes : List ℕ} {old new : World} → Puts bytes ends_with.DefinitionRefused old new ends_with.Done → ⊥
 no_refusal_put (put_front front) = no_front front
 
-was_read : {file : Name} {limit : ℕ} {Next : List ℕ → Act} {old new : World}
+pub was_read : {file : Name} {limit : ℕ} {Next : List ℕ → Act} {old new : World}
     → Reads file limit Next old new ends_with.Done
     → (bytes : List ℕ) × AreBytes old file bytes × Next bytes old new ends_with.Done
 was_read (is_read bytes are short on) = (bytes, are, on)
 
-was_accepted : {bytes : List ℕ} {Next : Definition → Act} {old new : World} → Defines bytes Next old new ends_with.Done
+pub was_accepted : {bytes : List ℕ} {Next : Definition → Act} {old new : World} → Defines bytes Next old new ends_with.Done
     → (def : Definition) × IsAccepted bytes def × Next def old new ends_with.Done
 was_accepted (is_accepted def accepted on) = (def, accepted, on)
 was_accepted (is_refused line refusal puts) = absurd (no_refusal_put puts)
@@ -275,8 +275,9 @@ module _ (def : Definition) (definition script : Name) (held : Held)
       sym (ap (λ (x : Outside). x.entries) done.files) ∙ kept in
       same_long done.last.files.entries old.files.entries (sym same)
 
-pub has_one_run : (def : Definition) → IsSound def → IsClass def → HasOneRun def
-has_one_run def sound is_class definition script held old new old' new' accepted run run' known known' kept kept' =
+pub edits_alike : (def : Definition) → IsSound def → IsClass def → (definition script : Name)
+    → HasOneRunOf def (edit definition script) definition
+edits_alike def sound is_class definition script held old new old' new' accepted run run' known known' kept kept' =
     let one = was_edited def definition script held accepted old new known run in
     let other = was_edited def definition script held accepted old' new' known' run' in
     let both = runs_alike def sound is_class held one.runs other.runs refl known known'

@@ -1,5 +1,5 @@
 -- The five lines that are told of a session, and how a run ends that tells them.
-use Rattle.std.proofs.Common.{◌≡◌, ℕ, ◌≤◌, List, [], ◌∷◌, ◌++◌, Option, Some, None, refl, sym, ◌∙◌, ap, subst, append_assoc, append-nil}
+use Rattle.std.proofs.Common.{◌≡◌, ℕ, ◌≤◌, List, [], ◌∷◌, ◌++◌, Option, Some, None, sym, ◌∙◌, ap, subst, append_assoc, append-nil}
 use Rattle.std.specs.Prelude.{MatchOption, codes, decimal}
 use Rattle.std.specs.Io.KnownBytes.{append_known}
 use Rattle.psg_grammar.specs.declared.types.Definition.{Definition}
@@ -20,16 +20,15 @@ use Rattle.psg_world.specs.Sinks.{HasRisen, TakesFront}
 use Rattle.psg_world.specs.declared.world.WriteStop.{WriteStop}
 use Rattle.psg_world.specs.declared.world.WriteStop.TheVariants as stops
 use Rattle.psg_run.specs.declared.status.Status.TheVariants as ends_with
-use Rattle.psg_run.specs.Chain.{Point, Runs, breaks, closes, first_point, is_played}
+use Rattle.psg_run.specs.Chain.{Point, Runs}
 use Rattle.psg_run.specs.Editing.{Editor, IsSilent}
 use Rattle.psg_run.specs.Endings.{write_status}
-use Rattle.psg_run.specs.Generated.{FiveLines, Generates, five_lines, no_room_to_tell, of_nothing, of_opened, operators_in, tells}
+use Rattle.psg_run.specs.Generated.{FiveLines, Generates, TellsFive, five_lines, no_room_to_tell, of_nothing, of_opened, operators_in, tells}
 use Rattle.psg_run.specs.Playing.{BreaksAmong, point}
 use Rattle.psg_run.specs.Scripts.{script_lines}
-use Rattle.psg_run.specs.Worlds.{Incoming, Puts, World, put_whole}
-use Rattle.psg_run.proofs.Chains.{append_known-nil}
-use Rattle.psg_run.proofs.Onward.{front_put}
+use Rattle.psg_run.specs.Worlds.{Incoming, World}
 use Rattle.psg_run.proofs.PlainLines.{made_back}
+use Rattle.psg_run.proofs.Telling.{end_among, end_front, end_told, end_untold}
 
 -- ---- the lines
 
@@ -115,34 +114,18 @@ told_runs def number old mid new files input ticks s last runs =
 module _ (def : Definition) (number : ℕ) (old new : World) where
   -- memory ran out among the lines
   pub broke_off : new.written ≡ old.written → BreaksAmong def (made_lines number) old new → Generates def number old new ends_with.Memory
-  broke_off same b =
-      is_played b.first (b.line ∷ b.rest) [] b.last b.split b.runs
-      (breaks (first_point Editor b.after new) b.breaks
-      (record { files = refl; input = refl; ticks = refl; took = same ∙ sym (append_known-nil old.written) ∙ sym (append_known-nil (append_known old.written [])) }))
+  broke_off same b = end_among def (TellsFive def) (made_lines number) old new same b
 
   module _ (s : State) (last : Reply) (runs : Runs Editor (IsSilent def) (point start (answered []) old) (made_lines number) [] (point s last new)) where
-    all_lines : made_lines number ≡ made_lines number ++ []
-    all_lines = sym (append-nil (made_lines number))
-
     -- there was no memory for the five lines
     pub untold : new.written ≡ old.written → Generates def number old new ends_with.Memory
-    untold same =
-        is_played (made_lines number) [] [] (point s last new) all_lines runs
-        (closes (point s last new) [] ends_with.Memory no_room_to_tell
-        (put_whole (record { files = refl; input = refl; ticks = refl; took = same ∙ sym (append_known-nil old.written) ∙ sym (append_known-nil (append_known old.written [])) })))
+    untold same = end_untold def (TellsFive def) (made_lines number) old new s last runs no_room_to_tell same
 
     module _ (lines : List (List ℕ)) (five : FiveLines def (IsCompletable def) s.opened (operators_in last) lines) (bytes : List ℕ) (is : bytes ≡ feed_all lines) where
       pub told_whole : new.written ≡ append_known old.written bytes → Generates def number old new ends_with.Done
-      told_whole put =
-          is_played (made_lines number) [] [] (point s last new) all_lines runs
-          (closes (point s last new) (feed_all lines) ends_with.Done (tells lines five)
-          (put_whole (record { files = refl; input = refl; ticks = refl; took = put ∙ ap (append_known old.written) is ∙ ap (λ w. append_known w (feed_all lines)) (sym (append_known-nil old.written)) })))
+      told_whole put = end_told def (TellsFive def) (made_lines number) old new s last runs (feed_all lines) (tells lines five) bytes is put
 
       pub told_front : TakesFront old.written bytes new.written → (stop : WriteStop) → (stop ≡ stops.Failed → HasRisen old.count new.count)
           → Generates def number old new (write_status stop)
       told_front takes stop risen =
-          is_played (made_lines number) [] [] (point s last new) all_lines runs
-          (closes (point s last new) (feed_all lines) ends_with.Done (tells lines five)
-          (subst (λ b. Puts b ends_with.Done (record { files = new.files; input = new.input; ticks = new.ticks; written = append_known old.written []; count = old.count }) new (write_status stop)) is
-          (front_put bytes ends_with.Done (record { files = new.files; input = new.input; ticks = new.ticks; written = append_known old.written []; count = old.count }) new refl refl refl
-          (subst (λ w. TakesFront w bytes new.written) (sym (append_known-nil old.written)) takes) stop risen)))
+          end_front def (TellsFive def) (made_lines number) old new s last runs (feed_all lines) (tells lines five) bytes is takes stop risen

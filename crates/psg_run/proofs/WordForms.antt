@@ -8,7 +8,8 @@ use Rattle.psg_terms.specs.Names.{Name}
 use Rattle.psg_run.specs.declared.status.Status.{Status}
 use Rattle.psg_run.specs.declared.status.Status.TheVariants as ends_with
 use Rattle.psg_run.specs.Worlds.{World, texts_of}
-use Rattle.psg_run.specs.Promise.{Form, check, edit, live, gen, HasNoForm, IsForm, IsRunOf, IsRun}
+use Rattle.psg_run.specs.Arranging.{most_columns}
+use Rattle.psg_run.specs.Promise.{Form, check, edit, live, gen, layout, HasNoForm, IsForm, IsRunOf, IsRun}
 
 pub two_words : (words : List (String Global)) (a b : String Global) → 2 ≤ length words → length words < 3 → a ≡ get_or words 0 a → b ≡ get_or words 1 b
     → texts_of words ≡ string_bytes a ∷ string_bytes b ∷ []
@@ -25,6 +26,20 @@ three_words (x ∷ y ∷ []) a b c more less ea eb ec = absurd (omega (arith, mo
 three_words (x ∷ y ∷ z ∷ []) a b c more less ea eb ec =
     ap₂ (λ p q. string_bytes p ∷ string_bytes q ∷ string_bytes z ∷ []) (sym ea) (sym eb) ∙ ap (λ r. string_bytes a ∷ string_bytes b ∷ string_bytes r ∷ []) (sym ec)
 three_words (x ∷ y ∷ z ∷ w ∷ more_words) a b c more less ea eb ec = absurd (omega (arith, less))
+
+pub five_words : (words : List (String Global)) (a b c d e : String Global) → 5 ≤ length words → length words < 6
+    → a ≡ get_or words 0 a → b ≡ get_or words 1 b → c ≡ get_or words 2 c → d ≡ get_or words 3 d → e ≡ get_or words 4 e
+    → texts_of words ≡ string_bytes a ∷ string_bytes b ∷ string_bytes c ∷ string_bytes d ∷ string_bytes e ∷ []
+five_words [] a b c d e more less ea eb ec ed ee = absurd (omega (arith, more))
+five_words (v ∷ []) a b c d e more less ea eb ec ed ee = absurd (omega (arith, more))
+five_words (v ∷ w ∷ []) a b c d e more less ea eb ec ed ee = absurd (omega (arith, more))
+five_words (v ∷ w ∷ x ∷ []) a b c d e more less ea eb ec ed ee = absurd (omega (arith, more))
+five_words (v ∷ w ∷ x ∷ y ∷ []) a b c d e more less ea eb ec ed ee = absurd (omega (arith, more))
+five_words (v ∷ w ∷ x ∷ y ∷ z ∷ []) a b c d e more less ea eb ec ed ee =
+    ap₂ (λ p q. string_bytes p ∷ string_bytes q ∷ string_bytes x ∷ string_bytes y ∷ string_bytes z ∷ []) (sym ea) (sym eb)
+    ∙ ap₂ (λ p q. string_bytes a ∷ string_bytes b ∷ string_bytes p ∷ string_bytes q ∷ string_bytes z ∷ []) (sym ec) (sym ed)
+    ∙ ap (λ p. string_bytes a ∷ string_bytes b ∷ string_bytes c ∷ string_bytes d ∷ string_bytes p ∷ []) (sym ee)
+five_words (v ∷ w ∷ x ∷ y ∷ z ∷ u ∷ rest) a b c d e more less ea eb ec ed ee = absurd (omega (arith, less))
 
 -- ---- forms
 
@@ -45,6 +60,7 @@ two_other a b no_check no_live no_gen (check d) e = no_check cc
 two_other a b no_check no_live no_gen (edit d s) e = cc
 two_other a b no_check no_live no_gen (live d) e = no_live cc
 two_other a b no_check no_live no_gen (gen n) (e, low, high) = no_gen cc
+two_other a b no_check no_live no_gen (layout d s l n) (e, low, high) = cc
 
 -- `gen` and a word that is no number of those for which a script is made
 pub no_number : (a b : Name) → a ≡ codes "gen" → ((n : ℕ) → IsNumeralUpTo 1000 n b → ⊥) → HasNoForm (a ∷ b ∷ [])
@@ -52,6 +68,7 @@ no_number a b is never (check d) e = not_check (sym is ∙ first_is a (codes "ch
 no_number a b is never (edit d s) e = cc
 no_number a b is never (live d) e = not_live_gen (sym is ∙ first_is a (codes "live") (b ∷ []) (d ∷ []) e)
 no_number a b is never (gen n) (e, low, high) = never n ((omega (arith, high), second_is a (codes "gen") b (decimal n) e), low, high)
+no_number a b is never (layout d s l n) (e, low, high) = cc
 
 -- `gen` and a number
 pub number_wanted : (a b : Name) (n : ℕ) → a ≡ codes "gen" → IsNumeralUpTo 1000 n b → IsForm (a ∷ b ∷ []) (gen n)
@@ -62,23 +79,51 @@ three_other a b c never (check d) e = cc
 three_other a b c never (edit d s) e = never cc
 three_other a b c never (live d) e = cc
 three_other a b c never (gen n) (e, low, high) = cc
+three_other a b c never (layout d s l n) (e, low, high) = cc
 
--- neither two words nor three
-pub other_count : (words : List (String Global)) → (length words ≡ 2 → ⊥) → (length words ≡ 3 → ⊥) → HasNoForm (texts_of words)
-other_count [] two three (check d) e = cc
-other_count [] two three (edit d s) e = cc
-other_count [] two three (live d) e = cc
-other_count [] two three (gen n) (e, low, high) = cc
-other_count (x ∷ []) two three (check d) e = cc
-other_count (x ∷ []) two three (edit d s) e = cc
-other_count (x ∷ []) two three (live d) e = cc
-other_count (x ∷ []) two three (gen n) (e, low, high) = cc
-other_count (x ∷ y ∷ []) two three form e = two refl
-other_count (x ∷ y ∷ z ∷ []) two three form e = three refl
-other_count (x ∷ y ∷ z ∷ w ∷ more) two three (check d) e = cc
-other_count (x ∷ y ∷ z ∷ w ∷ more) two three (edit d s) e = cc
-other_count (x ∷ y ∷ z ∷ w ∷ more) two three (live d) e = cc
-other_count (x ∷ y ∷ z ∷ w ∷ more) two three (gen n) (e, low, high) = cc
+-- five words of which the first is another one, or the last no number of columns
+pub five_other : (a b c d e : Name) → (a ≡ codes "layout" → (n : ℕ) → IsNumeralUpTo most_columns n e → ⊥)
+    → HasNoForm (a ∷ b ∷ c ∷ d ∷ e ∷ [])
+five_other a b c d e never (check x) p = cc
+five_other a b c d e never (edit x y) p = cc
+five_other a b c d e never (live x) p = cc
+five_other a b c d e never (gen n) (p, low, high) = cc
+five_other a b c d e never (layout x y z n) (p, low, high) =
+    let first : a ≡ codes "layout" = cc in
+    let last : e ≡ decimal n = cc in
+    never first n ((omega (arith, high), last), low, high)
+
+-- `layout` and a number of columns
+pub columns_wanted : (a b c d e : Name) (n : ℕ) → a ≡ codes "layout" → IsNumeralUpTo most_columns n e
+    → IsForm (a ∷ b ∷ c ∷ d ∷ e ∷ []) (layout b c d n)
+columns_wanted a b c d e n is (numeral, low, high) = (ap₂ (λ x y. x ∷ b ∷ c ∷ d ∷ y ∷ []) is numeral.1, low, high)
+
+-- neither two words nor three nor five
+pub other_count : (words : List (String Global)) → (length words ≡ 2 → ⊥) → (length words ≡ 3 → ⊥) → (length words ≡ 5 → ⊥)
+    → HasNoForm (texts_of words)
+other_count [] two three five (check d) e = cc
+other_count [] two three five (edit d s) e = cc
+other_count [] two three five (live d) e = cc
+other_count [] two three five (gen n) (e, low, high) = cc
+other_count [] two three five (layout d s l n) (e, low, high) = cc
+other_count (x ∷ []) two three five (check d) e = cc
+other_count (x ∷ []) two three five (edit d s) e = cc
+other_count (x ∷ []) two three five (live d) e = cc
+other_count (x ∷ []) two three five (gen n) (e, low, high) = cc
+other_count (x ∷ []) two three five (layout d s l n) (e, low, high) = cc
+other_count (x ∷ y ∷ []) two three five form e = absurd (two refl)
+other_count (x ∷ y ∷ z ∷ []) two three five form e = absurd (three refl)
+other_count (x ∷ y ∷ z ∷ w ∷ []) two three five (check d) e = cc
+other_count (x ∷ y ∷ z ∷ w ∷ []) two three five (edit d s) e = cc
+other_count (x ∷ y ∷ z ∷ w ∷ []) two three five (live d) e = cc
+other_count (x ∷ y ∷ z ∷ w ∷ []) two three five (gen n) (e, low, high) = cc
+other_count (x ∷ y ∷ z ∷ w ∷ []) two three five (layout d s l n) (e, low, high) = cc
+other_count (x ∷ y ∷ z ∷ w ∷ v ∷ []) two three five form e = absurd (five refl)
+other_count (x ∷ y ∷ z ∷ w ∷ v ∷ u ∷ more) two three five (check d) e = cc
+other_count (x ∷ y ∷ z ∷ w ∷ v ∷ u ∷ more) two three five (edit d s) e = cc
+other_count (x ∷ y ∷ z ∷ w ∷ v ∷ u ∷ more) two three five (live d) e = cc
+other_count (x ∷ y ∷ z ∷ w ∷ v ∷ u ∷ more) two three five (gen n) (e, low, high) = cc
+other_count (x ∷ y ∷ z ∷ w ∷ v ∷ u ∷ more) two three five (layout d s l n) (e, low, high) = cc
 
 -- ---- runs
 
@@ -106,6 +151,22 @@ one_form words (gen n) (live d) (p, low, high) q = absurd (not_live_gen (first_i
 one_form words (gen n) (gen m) (p, low, high) (q, low', high') =
     ap gen (decimal_injective n m (omega (arith, high)) (omega (arith, high'))
     (second_is (codes "gen") (codes "gen") (decimal n) (decimal m) (sym p ∙ q)))
+one_form words (check x) (layout d s l n) p (q, low, high) = let whole : codes "check" ∷ x ∷ [] ≡ codes "layout" ∷ d ∷ s ∷ l ∷ decimal n ∷ [] = sym p ∙ q in cc
+one_form words (edit x y) (layout d s l n) p (q, low, high) = let whole : codes "edit" ∷ x ∷ y ∷ [] ≡ codes "layout" ∷ d ∷ s ∷ l ∷ decimal n ∷ [] = sym p ∙ q in cc
+one_form words (live x) (layout d s l n) p (q, low, high) = let whole : codes "live" ∷ x ∷ [] ≡ codes "layout" ∷ d ∷ s ∷ l ∷ decimal n ∷ [] = sym p ∙ q in cc
+one_form words (gen m) (layout d s l n) (p, small, large) (q, low, high) = let whole : codes "gen" ∷ decimal m ∷ [] ≡ codes "layout" ∷ d ∷ s ∷ l ∷ decimal n ∷ [] = sym p ∙ q in cc
+one_form words (layout d s l n) (check x) (p, low, high) q = let whole : codes "layout" ∷ d ∷ s ∷ l ∷ decimal n ∷ [] ≡ codes "check" ∷ x ∷ [] = sym p ∙ q in cc
+one_form words (layout d s l n) (edit x y) (p, low, high) q = let whole : codes "layout" ∷ d ∷ s ∷ l ∷ decimal n ∷ [] ≡ codes "edit" ∷ x ∷ y ∷ [] = sym p ∙ q in cc
+one_form words (layout d s l n) (live x) (p, low, high) q = let whole : codes "layout" ∷ d ∷ s ∷ l ∷ decimal n ∷ [] ≡ codes "live" ∷ x ∷ [] = sym p ∙ q in cc
+one_form words (layout d s l n) (gen m) (p, low, high) (q, small, large) = let whole : codes "layout" ∷ d ∷ s ∷ l ∷ decimal n ∷ [] ≡ codes "gen" ∷ decimal m ∷ [] = sym p ∙ q in cc
+one_form words (layout d s l n) (layout d' s' l' m) (p, low, high) (q, low', high') =
+    let whole : codes "layout" ∷ d ∷ s ∷ l ∷ decimal n ∷ [] ≡ codes "layout" ∷ d' ∷ s' ∷ l' ∷ decimal m ∷ [] = sym p ∙ q in
+    let first : d ≡ d' = cc in
+    let second : s ≡ s' = cc in
+    let third : l ≡ l' = cc in
+    let last : decimal n ≡ decimal m = cc in
+    let same : n ≡ m = decimal_injective n m (omega (arith, high)) (omega (arith, high')) last in
+    cc
 one_form words (live d) (live e) p q = let whole : codes "live" ∷ d ∷ [] ≡ codes "live" ∷ e ∷ [] = sym p ∙ q in cc
 
 module _ (words : List Name) (old new : World) (status : Status) where
@@ -127,6 +188,10 @@ module _ (words : List Name) (old new : World) (status : Status) where
 
   pub of_gen : (number : ℕ) → IsForm words (gen number) → IsRunOf (gen number) old new status → IsRun words old new status
   of_gen number is ran = of_form (gen number) is ran
+
+  pub of_layout : (definition script rules : Name) (columns : ℕ) → IsForm words (layout definition script rules columns)
+      → IsRunOf (layout definition script rules columns) old new status → IsRun words old new status
+  of_layout definition script rules columns is ran = of_form (layout definition script rules columns) is ran
 
   -- words of a form are not of none
   pub has_form : (form : Form) → IsForm words form → HasNoForm words → ⊥

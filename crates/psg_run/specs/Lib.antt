@@ -5,6 +5,7 @@ pub mod Editing
 pub mod Live
 pub mod Generated
 pub mod Reading
+pub mod Arranging
 pub mod Promise
 pub mod Codes
 pub mod Endings

@@ -1,24 +1,29 @@
--- The plain editor gives each script one output and lacks none; its trees stay of their kinds; and a run for which
--- nothing goes wrong outside ends well.
-use Rattle.std.specs.Prelude.{ℕ, ◌≡◌, ◌≤◌, ◌++◌, ◌⊎◌, Bool, true, false, List, [], ◌∷◌, length, Some}
+-- The plain editor gives each script one output and lacks none; its trees stay of their kinds; arranged text reads
+-- back; and a run for which nothing goes wrong outside ends well.
+use Rattle.std.specs.Prelude.{ℕ, ◌≡◌, ◌≤◌, ◌++◌, ◌⊎◌, Bool, true, false, List, [], ◌∷◌, length}
+use Rattle.std.specs.Prelude.{Option, Some, None, codes}
 use Rattle.std.specs.Io.KnownBytes.{append_known}
 use Rattle.psg_terms.specs.Names.{Name}
 use Rattle.psg_grammar.specs.declared.types.Definition.{Definition}
 use Rattle.psg_langs.specs.declared.named.TheConstants.{MINI}
+use Rattle.psg_layout.specs.declared.layout.Layout.{Layout}
+use Rattle.psg_layout.specs.Layouts.{LayoutRefusal}
+use Rattle.psg_unparse.specs.Spaced.{Put, SpacedReadsBack, text_in}
 use Rattle.psg_world.specs.Files.{Held, bytes_of}
 use Rattle.psg_world.specs.Sinks.{HasRisen}
 use Rattle.psg_session.specs.Exchanges.{Outside}
 use Rattle.psg_session.specs.Formed.{IsFormedState}
 use Rattle.psg_session.specs.Lines.{HasAnswered, to_nothing, to_command}
-use Rattle.psg_session.specs.PlainState.{Answer, State, not_asked, stored, got, lost}
-use Rattle.psg_session.specs.Replies.{Reply}
+use Rattle.psg_session.specs.PlainState.{Answer, Opened, State, not_asked, stored, got, lost}
+use Rattle.psg_session.specs.Replies.{Reply, feed}
 use Rattle.psg_session.specs.SomeStep.{CannotLack}
 use Rattle.psg_run.specs.declared.status.Status.{Status}
 use Rattle.psg_run.specs.declared.status.Status.TheVariants as ends_with
-use Rattle.psg_run.specs.Chain.{Point, Runs, rests, goes}
-use Rattle.psg_run.specs.Editing.{Editor, IsReplied}
+use Rattle.psg_run.specs.Arranging.{Arranges, most_layout_bytes}
+use Rattle.psg_run.specs.Chain.{Point, Runs, first_point, rests, goes}
+use Rattle.psg_run.specs.Editing.{Editor, IsReplied, new_editor}
 use Rattle.psg_run.specs.Live.{IsRepliedLive, heard, with_input}
-use Rattle.psg_run.specs.Promise.{Form, IsRunOf, check, edit, live, gen}
+use Rattle.psg_run.specs.Promise.{Form, IsRunOf, check, edit, live, gen, layout}
 use Rattle.psg_run.specs.Reading.{IsAccepted, most_definition_bytes, most_script_bytes}
 use Rattle.psg_run.specs.Worlds.{IsFrontOf, World, with_failed_read}
 
@@ -102,6 +107,26 @@ abbrev pub LeavesFiles : Type 0
 LeavesFiles = (number : ℕ) (old new : World) (status : Status) → IsRunOf (gen number) old new status
     → new.files ≡ old.files
 
+-- ---- arranged text
+
+module _ (def : Definition) where
+  -- The text is that of tokens which read back as the opened fragment, and are the tokens of its plain text. Where nothing
+  -- is opened, it is the word `none`.
+  pub data ReadsBackAs : Option Opened → List ℕ → Type 0 where
+    of_nothing : ReadsBackAs None (codes "none")
+    of_opened : (old : Opened) (puts : List Put) → SpacedReadsBack def old.tree old.kind puts
+        → ReadsBackAs (Some old) (text_in puts)
+
+  -- Where the lines were played and the arranged text was put, what was put is one line feed after a text that reads back
+  -- as the fragment which is opened after the lines. The replies to the lines are not put.
+  abbrev pub ArrangedReadsBack : Type 0
+  ArrangedReadsBack = (by : Layout) (columns : ℕ) (lines : List (List ℕ)) (old new : World)
+      → Arranges def by columns lines old new ends_with.Done
+      → (end : Point Editor) × (replies : List ℕ) × (text : List ℕ)
+      × Runs Editor (IsReplied def) (first_point Editor new_editor old) lines replies end
+      × ReadsBackAs end.state.state.opened text
+      × (new.written ≡ append_known old.written (feed text))
+
 -- ---- runs for which nothing goes wrong outside
 
 -- the file is known, and short enough for this limit
@@ -118,35 +143,55 @@ pub record HasDefinition (world : World) (file : Name) : Type 0 where
   pub def : Definition
   pub accepted : IsAccepted (bytes_of held file) def
 
+-- the file of a layout is known, short enough, and no line of it is refused for the definition that the other file holds
+pub record HasLayout (world : World) (definition rules : Name) : Type 0 where
+  pub held : Held
+  pub known : world.files.held ≡ Some held
+  pub short : length (bytes_of held rules) ≤ most_layout_bytes
+  pub faultless : (def : Definition) → IsAccepted (bytes_of held definition) def
+      → (line code : ℕ) → LayoutRefusal def (bytes_of held rules) line code → ⊥
+
 -- The run did not end at its own read of the file. A read by a command may fail.
 abbrev pub WasRead : World → World → Name → Type 0
 WasRead old new file = new ≡ with_failed_read old file → ⊥
 
--- The definition is accepted, the files are short, the run's own reads of them and of the input did not fail, and the
--- sink's count has not risen.
+-- the definition is accepted, the script is short, and the run's own reads of both did not fail
+abbrev pub ScriptGoesWell : World → World → Name → Name → Type 0
+ScriptGoesWell old new definition script =
+    HasDefinition old definition × WasRead old new definition × IsShort old script most_script_bytes
+    × WasRead old new script
+
+-- The definition is accepted, the files are short, a layout has no fault, the run's own reads of them and of the input
+-- did not fail, and the sink's count has not risen.
 abbrev pub GoesWell : Form → World → World → Type 0
 GoesWell (check d) old new = HasDefinition old d × WasRead old new d × (HasRisen old.count new.count → ⊥)
-GoesWell (edit d s) old new =
-    HasDefinition old d × WasRead old new d × IsShort old s most_script_bytes × WasRead old new s
-    × (HasRisen old.count new.count → ⊥)
+GoesWell (edit d s) old new = ScriptGoesWell old new d s × (HasRisen old.count new.count → ⊥)
 GoesWell (live d) old new =
     HasDefinition old d × WasRead old new d × (new.input.missed ≡ old.input.missed)
     × (HasRisen old.count new.count → ⊥)
 GoesWell (gen number) old new =
     ((def : Definition) × IsAccepted MINI.now def) × (HasRisen old.count new.count → ⊥)
+GoesWell (layout d s rules columns) old new =
+    ScriptGoesWell old new d s × HasLayout old d rules × WasRead old new rules × (HasRisen old.count new.count → ⊥)
 
 -- Where nothing goes wrong outside, the run ends well, or memory ran out.
 abbrev pub EndsWell : Type 0
 EndsWell = (form : Form) (old new : World) (status : Status) → IsRunOf form old new status → GoesWell form old new
     → (status ≡ ends_with.Done) ⊎ (status ≡ ends_with.Memory)
 
--- Two runs of one script on the definition that ended well, over files that held the same and none of whose calls
--- failed, wrote the same and left the same in the files.
-abbrev pub HasOneRun : Definition → Type 0
-HasOneRun def = (definition script : Name) (held : Held) (old new old' new' : World)
+-- Two runs of one form on the definition, which is in this file, that ended well, over files that held the same and none
+-- of whose calls failed, wrote the same and left the same in the files.
+abbrev pub HasOneRunOf : Definition → Form → Name → Type 0
+HasOneRunOf def form definition = (held : Held) (old new old' new' : World)
     → IsAccepted (bytes_of held definition) def
-    → IsRunOf (edit definition script) old new ends_with.Done → IsRunOf (edit definition script) old' new' ends_with.Done
+    → IsRunOf form old new ends_with.Done → IsRunOf form old' new' ends_with.Done
     → old.files.held ≡ Some held → old'.files.held ≡ Some held
     → new.files.entries ≡ old.files.entries → new'.files.entries ≡ old'.files.entries
     → (output : List ℕ) × (new.written ≡ append_known old.written output)
     × (new'.written ≡ append_known old'.written output) × (new'.files.held ≡ new.files.held)
+
+-- That is so of each form that plays a script on a file's definition.
+pub record HasOneRun (def : Definition) : Type 0 where
+  pub edits : (definition script : Name) → HasOneRunOf def (edit definition script) definition
+  pub layouts : (definition script rules : Name) (columns : ℕ)
+      → HasOneRunOf def (layout definition script rules columns) definition

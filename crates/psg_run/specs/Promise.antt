@@ -1,12 +1,13 @@
 -- The promise of a run of the program. Reading says what a run reads, Chain how lines are played, Editing and Live what
--- the plain editor does with them, Generated what `gen` tells, and Worlds what is outside and what is put. (Playing and
--- Endings are about the calls of this crate, and Outputs about its laws.)
+-- the plain editor does with them, Generated what `gen` tells, Arranging what `layout` tells, and Worlds what is outside
+-- and what is put. (Playing and Endings are about the calls of this crate, and Outputs about its laws.)
 use Rattle.std.specs.Prelude.{ℕ, ◌≡◌, ◌≤◌, List, [], ◌∷◌, codes, decimal}
 use Rattle.psg_langs.specs.declared.named.TheConstants.{MINI}
 use Rattle.psg_terms.specs.Names.{Name}
 use Rattle.psg_session.specs.Replies.{feed}
 use Rattle.psg_run.specs.declared.status.Status.{Status}
 use Rattle.psg_run.specs.declared.status.Status.TheVariants as ends_with
+use Rattle.psg_run.specs.Arranging.{ArrangesBy, most_columns}
 use Rattle.psg_run.specs.Editing.{Edits}
 use Rattle.psg_run.specs.Generated.{Generates}
 use Rattle.psg_run.specs.Live.{Talks}
@@ -14,12 +15,13 @@ use Rattle.psg_run.specs.Reading.{Defines, OnDefinition, Reads, most_script_byte
 use Rattle.psg_run.specs.Scripts.{script_lines}
 use Rattle.psg_run.specs.Worlds.{Act, Puts, World}
 
--- What the words ask for.
+-- What the words ask for. `rules` is the file of a layout.
 pub data Form : Type 0 where
   check : (definition : Name) → Form
   edit : (definition script : Name) → Form
   live : (definition : Name) → Form
   gen : (number : ℕ) → Form
+  layout : (definition script rules : Name) (columns : ℕ) → Form
 
 -- the words after the program's name have this form
 abbrev pub IsForm : List Name → Form → Type 0
@@ -27,6 +29,9 @@ IsForm words (check definition) = words ≡ codes "check" ∷ definition ∷ []
 IsForm words (edit definition script) = words ≡ codes "edit" ∷ definition ∷ script ∷ []
 IsForm words (live definition) = words ≡ codes "live" ∷ definition ∷ []
 IsForm words (gen number) = (words ≡ codes "gen" ∷ decimal number ∷ []) × (1 ≤ number) × (number ≤ 1000)
+IsForm words (layout definition script rules columns) =
+    (words ≡ codes "layout" ∷ definition ∷ script ∷ rules ∷ decimal columns ∷ [])
+    × (1 ≤ columns) × (columns ≤ most_columns)
 
 -- the words have none of the forms
 abbrev pub HasNoForm : List Name → Type 0
@@ -39,6 +44,9 @@ IsRunOf (edit definition script) =
     OnDefinition definition (λ def. Reads script most_script_bytes (λ bytes. Edits def (script_lines bytes)))
 IsRunOf (live definition) = OnDefinition definition Talks
 IsRunOf (gen number) = Defines MINI.now (λ def. Generates def number)
+IsRunOf (layout definition script rules columns) =
+    OnDefinition definition
+    (λ def. Reads script most_script_bytes (λ bytes. ArrangesBy def rules columns (script_lines bytes)))
 
 -- A run does what the words ask for. Words of no form have their status, and nothing else happens.
 pub record IsRun (words : List Name) (old new : World) (status : Status) : Type 0 where

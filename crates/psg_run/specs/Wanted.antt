@@ -2,8 +2,8 @@
 use Rattle.std.specs.Prelude.{List}
 use Rattle.psg_terms.specs.Names.{Name}
 use Rattle.psg_run.specs.declared.words.Form.{Form as Found}
-use Rattle.psg_run.specs.declared.words.Form.TheVariants.{Check, Edit, Live, Gen}
-use Rattle.psg_run.specs.Promise.{Form, check, edit, live, gen, IsForm}
+use Rattle.psg_run.specs.declared.words.Form.TheVariants.{Check, Edit, Live, Gen, Layout}
+use Rattle.psg_run.specs.Promise.{Form, check, edit, live, gen, layout, IsForm}
 
 -- the form that the program's form is
 abbrev pub form_told : Found → Form
@@ -11,6 +11,7 @@ form_told (Check definition) = check definition.now
 form_told (Edit definition script) = edit definition.now script.now
 form_told (Live definition) = live definition.now
 form_told (Gen number) = gen number
+form_told (Layout definition script rules columns) = layout definition.now script.now rules.now columns
 
 -- what was found is the form that the words have
 abbrev pub IsWanted : List Name → Found → Type 0

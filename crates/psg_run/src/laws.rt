@@ -6,7 +6,7 @@ ghost use Rattle.psg_grammar.specs.Sound.{IsSound};
 ghost use Rattle.psg_grammar.specs.WellFormed.{fixed_words};
 ghost use Rattle.psg_grammar.specs.declared.types.Definition.{Definition as Plain};
 ghost use Rattle.psg_lexis.specs.Tokens.{IsFixedWord};
-ghost use Rattle.psg_run.specs.Outputs.{EndsWell, HasOneOutput, HasOneRun, HasSomeOutput};
+ghost use Rattle.psg_run.specs.Outputs.{ArrangedReadsBack, EndsWell, HasOneOutput, HasOneRun, HasSomeOutput};
 ghost use Rattle.psg_run.specs.Outputs.{KeepsForms, LeavesFiles, RepliesAlike};
 ghost use Rattle.psg_run.specs.Reading.{IsAccepted as IsAcceptedText, IsRefusalLine};
 ghost use Rattle.psg_specimen.specs.Refusal.{IsAccepted};
@@ -47,9 +47,18 @@ pub fn one_definition()
 {}
 
 /// States that a run for which nothing goes wrong outside ends well, or is out of memory: its definition is accepted,
-/// its files are short, and no read of its own and no put failed. The call has no cost.
+/// its files are short, a layout has no fault, and no read of its own and no put failed. The call has no cost.
 pub fn ends_well()
     ensures { EndsWell }
+{}
+
+/// States that what `layout` puts of an opened fragment reads back as the fragment, and has the tokens of its plain
+/// text. The call has no cost.
+pub fn arranged_reads_back(definition: &Definition)
+    requires sound { IsSound definition.now }
+    requires words { AllByRecursion IsFixedWord (fixed_words definition.now) }
+    requires accepted { IsAccepted definition.now }
+    ensures { ArrangedReadsBack definition.now }
 {}
 
 /// States that lines which are read from an input are replied to as those of a script. The call has no cost.
@@ -62,8 +71,8 @@ pub fn gen_leaves_files()
     ensures { LeavesFiles }
 {}
 
-/// States that two runs of a script on the definition, with status 0 and over files that held the same, write the same
-/// and leave the same files, where no call of the files failed. The call has no cost.
+/// States that two runs of `edit` on the definition, or two of `layout`, with status 0 and over files that held the same,
+/// write the same and leave the same files, if no call of the files failed. The call has no cost.
 pub fn one_run(definition: &Definition)
     requires sound { IsSound definition.now }
     requires class { IsClass definition.now }

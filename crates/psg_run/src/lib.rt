@@ -1,11 +1,13 @@
 //! A run of the program: from words, files, an input and a sink to a status.
 //!
 //! `run(alloc, &words, &mut files, &mut input, &mut out, &mut steps)` does what the words say. For `check DEF` it says
-//! whether a file has a definition. For `edit DEF SCRIPT` it writes the replies of the plain editor, which is defined
-//! in psg_session's specs and knows nothing but trees. For `live DEF` it writes them to the lines of the input. For `gen N` it
-//! says how large a program is that it makes.
+//! whether a file has a definition. For `edit DEF SCRIPT` it writes the replies of the plain editor, which is defined in
+//! psg_session's specs and knows nothing but trees. For `live DEF` it writes them to the lines of the input. For `gen N`
+//! it says how large a program is that it makes. For `layout DEF SCRIPT LAY COLS` it writes the program of the script,
+//! arranged by the layout for so many columns.
 #![tactic(auto)]
 
+mod arranging;
 mod generating;
 pub mod laws;
 pub mod limits;

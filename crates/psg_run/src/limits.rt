@@ -11,3 +11,9 @@ pub const MOST_LINE_BYTES: usize = 1_048_576;
 
 /// The greatest number for which `gen` makes a script.
 pub const MOST_GENERATED: u32 = 1_000;
+
+/// The most bytes of a layout.
+pub const MOST_LAYOUT_BYTES: usize = 65_536;
+
+/// The greatest number of columns for which `layout` arranges a program.
+pub const MOST_COLUMNS: u32 = 400;

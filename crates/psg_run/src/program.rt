@@ -1,12 +1,15 @@
 //! The whole program.
 ghost use Rattle.std.specs.Prelude.{ℕ, ◌≡◌, map, string_bytes};
+ghost use Rattle.psg_run.specs.Arranging.{ArrangesBy};
 ghost use Rattle.psg_run.specs.Editing.{Edits};
 ghost use Rattle.psg_run.specs.Live.{Talks};
-ghost use Rattle.psg_run.specs.Promise.{HasNoForm, IsRun, IsRunOf, check as check_of, edit as edit_of, live as live_of};
+ghost use Rattle.psg_run.specs.Promise.{HasNoForm, IsRun, IsRunOf, check as check_of, edit as edit_of};
+ghost use Rattle.psg_run.specs.Promise.{layout as layout_of, live as live_of};
 ghost use Rattle.psg_run.specs.Reading.{Reads, most_script_bytes};
 ghost use Rattle.psg_run.specs.Scripts.{script_lines};
 ghost use Rattle.psg_run.specs.Worlds.{Incoming, coming, seen, texts_of};
 
+use crate::arranging::arrange_by;
 use crate::generating::generate;
 use crate::limits::MOST_SCRIPT_BYTES;
 use crate::live::talk;
@@ -43,6 +46,40 @@ fn play_file<F: Files, O: Sink, L: Ledger>(
         return Status::Memory;
     };
     play(alloc, &mut session, bytes.as_slice(), files, out, steps)
+}
+
+/// Reads the script and then the layout, plays the script on a new session of the language, and puts what is opened
+/// then, arranged for so many columns.
+fn arrange_file<F: Files, O: Sink, L: Ledger>(
+    alloc: Global,
+    language: Language,
+    script: &str,
+    rules: &str,
+    columns: u32,
+    files: &mut F,
+    out: &mut O,
+    steps: &mut Steps<L>,
+) -> Status
+    ensures { (input : Incoming) → Reads script.now most_script_bytes
+        (λ bytes. ArrangesBy language rules.now columns (script_lines bytes))
+        (seen (F.holds files.old) (F.faults files.old) input steps.old (O.written out.old) (O.faults out.old))
+        (seen (F.holds files.new) (F.faults files.new) input steps.new (O.written out.new) (O.faults out.new))
+        result }
+{
+    let bytes = match read_within(alloc, script, MOST_SCRIPT_BYTES, files) {
+        Ok(bytes) => bytes,
+        Err(status) => return status,
+    };
+    arrange_by(
+        alloc,
+        language,
+        bytes.as_slice(),
+        rules,
+        columns,
+        files,
+        out,
+        steps,
+    )
 }
 
 /// Says whether the file has an accepted definition: `accepted`, or the line of its first fault.
@@ -105,12 +142,39 @@ fn live<F: Files, I: Input, O: Sink, L: Ledger>(
     talk(alloc, &mut session, files, input, out, steps)
 }
 
+/// Arranges the program of a script by a layout. The order of tests is: the definition is read, its length, whether it
+/// is one, whether it is accepted, the script is read, its length, the layout is read, its length, its lines, then the
+/// lines of the script.
+fn layout<F: Files, O: Sink, L: Ledger>(
+    alloc: Global,
+    definition: &str,
+    script: &str,
+    rules: &str,
+    columns: u32,
+    files: &mut F,
+    out: &mut O,
+    steps: &mut Steps<L>,
+) -> Status
+    ensures { (input : Incoming) → IsRunOf (layout_of definition.now script.now rules.now columns)
+        (seen (F.holds files.old) (F.faults files.old) input steps.old (O.written out.old) (O.faults out.old))
+        (seen (F.holds files.new) (F.faults files.new) input steps.new (O.written out.new) (O.faults out.new))
+        result }
+{
+    let language = match read_language(alloc, definition, files, out) {
+        Ok(language) => language,
+        Err(status) => return status,
+    };
+    arrange_file(alloc, language, script, rules, columns, files, out, steps)
+}
+
 /// Does what the words say, and returns how that ended; `Status` says when each ending is returned. `check DEF` says in
 /// one line whether the file DEF has a definition that is accepted. `edit DEF SCRIPT` plays each line of the file
 /// SCRIPT, a command, on an editor of the definition; the replies go to `out`. `live DEF` plays the lines of the input
 /// likewise, and puts the reply to each before it reads the next one. `gen N` plays a script that is made for the
-/// number N, from 1 to 1,000, on the language MINI, and writes five lines of the program then. `steps` counts
-/// evaluations of nodes and list suffixes: a command evaluates what is new and what is above it.
+/// number N, from 1 to 1,000, on the language MINI, and writes five lines of the program then. `layout DEF SCRIPT LAY
+/// COLS` plays a script as `edit` does, but in silence. Then it writes the opened program, arranged by the file LAY for
+/// COLS columns, from 1 to 400, or `none` if nothing is opened. `steps` counts evaluations of nodes and list suffixes: a
+/// command evaluates what is new and what is above it.
 pub fn run<F: Files, I: Input, O: Sink, L: Ledger>(
     alloc: Global,
     words: &[String],
@@ -135,6 +199,14 @@ pub fn run<F: Files, I: Input, O: Sink, L: Ledger>(
         }
         Some(Form::Live { definition }) => live(alloc, definition, files, input, out, steps),
         Some(Form::Gen { number }) => generate(alloc, number, files, out, steps),
+        Some(
+            Form::Layout {
+                definition,
+                script,
+                rules,
+                columns,
+            },
+        ) => { layout(alloc, definition, script, rules, columns, files, out, steps) }
         None => Status::Words,
     }
 }

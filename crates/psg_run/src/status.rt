@@ -5,26 +5,28 @@ ghost use Rattle.psg_run.specs.Codes.{code_of};
 /// How a run of the program ends. Its number is the exit status.
 #[derive(Clone, Copy, Debug, PartialEq, Eq)]
 pub enum Status {
-    /// The script or the input was read to its end, and every reply was written.
+    /// All that was asked for was done, and the whole output was written.
     Done,
     /// The bytes of the definition are no definition, or one that is not accepted, and the line that says so was
     /// written.
     DefinitionRefused,
     /// The words have none of the forms; nothing was read or written.
     Words,
-    /// A read of the definition or of the script failed, and nothing was written; or one of the input failed, and the
-    /// replies to the lines before were written.
+    /// A read of the definition, of the script or of the layout failed, and nothing was written; or one of the input
+    /// failed, and the replies to the lines before were written.
     ReadFault,
     /// A write of the output failed; a front of the output was written, and not all of it.
     WriteFault,
     /// There was no memory left; a front of the output was written, which may be empty.
     Memory,
-    /// The definition or the script is too long; nothing was written.
+    /// The definition, the script or the layout is too long; nothing was written.
     TooLong,
+    /// The bytes of the layout are no layout, and the line that says so was written.
+    LayoutRefused,
 }
 
 impl Status {
-    /// Returns the exit status of the process, from 0 to 6.
+    /// Returns the exit status of the process, from 0 to 7.
     pub fn code(self) -> u8
         ensures { result ≡ code_of self }
     {
@@ -36,6 +38,7 @@ impl Status {
             Status::WriteFault => 4,
             Status::Memory => 5,
             Status::TooLong => 6,
+            Status::LayoutRefused => 7,
         }
     }
 }

@@ -5,7 +5,7 @@ ghost use Rattle.psg_run.specs.Promise.{HasNoForm};
 ghost use Rattle.psg_run.specs.Wanted.{IsWanted};
 ghost use Rattle.psg_run.specs.Worlds.{texts_of};
 
-use crate::limits::MOST_GENERATED;
+use crate::limits::{MOST_COLUMNS, MOST_GENERATED};
 use psg_script::read_up_to;
 
 /// A form of words.
@@ -27,6 +27,13 @@ pub enum Form<'a> {
     /// `gen N`
     Gen {
         number: u32,
+    },
+    /// `layout DEF SCRIPT LAY COLS`
+    Layout {
+        definition: &'a str,
+        script: &'a str,
+        rules: &'a str,
+        columns: u32,
     },
 }
 
@@ -69,6 +76,30 @@ fn of_three<'a>(form: &str, definition: &'a str, script: &'a str) -> Option<Form
     }
 }
 
+/// What five words ask for.
+fn of_five<'a>(
+    form: &str,
+    definition: &'a str,
+    script: &'a str,
+    rules: &'a str,
+    columns: &str,
+) -> Option<Form<'a>>
+    ensures { MatchOption result (HasNoForm (form.now ∷ definition.now ∷ script.now ∷ rules.now ∷ columns.now ∷ []))
+        (IsWanted (form.now ∷ definition.now ∷ script.now ∷ rules.now ∷ columns.now ∷ [])) }
+{
+    if form == "layout" {
+        let columns = read_up_to(MOST_COLUMNS, columns)?;
+        Some(Form::Layout {
+            definition,
+            script,
+            rules,
+            columns,
+        })
+    } else {
+        None
+    }
+}
+
 /// Returns what the words after the program's name ask for, or none where they have no form.
 pub fn form_of(words: &[String]) -> Option<Form<'_>>
     ensures { MatchOption result (HasNoForm (texts_of words.now)) (IsWanted (texts_of words.now)) }
@@ -78,6 +109,13 @@ pub fn form_of(words: &[String]) -> Option<Form<'_>>
         [form, definition, script] => {
             of_three(form.as_str(), definition.as_str(), script.as_str())
         }
+        [form, definition, script, rules, columns] => of_five(
+            form.as_str(),
+            definition.as_str(),
+            script.as_str(),
+            rules.as_str(),
+            columns.as_str(),
+        ),
         _ => None,
     }
 }

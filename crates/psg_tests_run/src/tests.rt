@@ -1,6 +1,7 @@
 //! Runs over files and a sink in memory.
 ghost use Rattle.std.specs.Prelude.{◌≡◌, ◌<◌};
 
+mod arranged;
 mod failures;
 mod generated;
 mod kept;

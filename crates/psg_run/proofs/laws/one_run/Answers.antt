@@ -1,4 +1,4 @@
-use Rattle.psg_run.proofs.OneRun.{has_one_run}
+use Rattle.psg_run.proofs.OneArranged.{has_one_run}
 use Rattle.psg_run.proofs.laws.one_run.Goals as goal
 
 pub returns : goal.returns

@@ -1,8 +1,8 @@
 use Rattle.std.proofs.Common.{◌≡◌, [], ◌∷◌}
 use Rattle.std.specs.Prelude.{codes}
-use Rattle.psg_run.specs.Promise.{check, edit, gen, live}
+use Rattle.psg_run.specs.Promise.{check, edit, gen, layout, live}
 use Rattle.psg_run.specs.Worlds.{coming, seen, texts_of}
-use Rattle.psg_run.proofs.WordForms.{has_form, of_check, of_edit, of_gen, of_live}
+use Rattle.psg_run.proofs.WordForms.{has_form, of_check, of_edit, of_gen, of_layout, of_live}
 use Rattle.psg_run.proofs.program.run.Goals as goal
 
 pub returns-in-Some-Check : goal.returns-in-Some-Check
@@ -49,4 +49,14 @@ returns-in-Some-Gen g c =
           (seen (g.F.Files.holds c.generate.new.files) (g.F.Files.faults c.generate.new.files) (coming (g.I.Input.lines c.args.input.now) (g.I.Input.given c.args.input.now) (g.I.Input.missed c.args.input.now)) c.generate.new.steps (g.O.Sink.written c.generate.new.out) (g.O.Sink.faults c.generate.new.out))
           c.generate.result c.in-Some-Gen.number wanted (c.generate.ensures (coming (g.I.Input.lines c.args.input.now) (g.I.Input.given c.args.input.now) (g.I.Input.missed c.args.input.now)));
       untouched = λ none. absurd (has_form (texts_of c.args.words.now) (seen (g.F.Files.holds c.args.files.now) (g.F.Files.faults c.args.files.now) (coming (g.I.Input.lines c.args.input.now) (g.I.Input.given c.args.input.now) (g.I.Input.missed c.args.input.now)) c.args.steps.now (g.O.Sink.written c.args.out.now) (g.O.Sink.faults c.args.out.now)) (seen (g.F.Files.holds c.args.files.now) (g.F.Files.faults c.args.files.now) (coming (g.I.Input.lines c.args.input.now) (g.I.Input.given c.args.input.now) (g.I.Input.missed c.args.input.now)) c.args.steps.now (g.O.Sink.written c.args.out.now) (g.O.Sink.faults c.args.out.now)) c.generate.result (gen c.in-Some-Gen.number) wanted none);
+    }
+
+pub returns-in-Some-Layout : goal.returns-in-Some-Layout
+returns-in-Some-Layout g c =
+    let wanted = rw c.in-Some-Layout.field-0-is at c.in-Some-Layout.ensures in
+    record {
+      run = of_layout (texts_of c.args.words.now) (seen (g.F.Files.holds c.args.files.now) (g.F.Files.faults c.args.files.now) (coming (g.I.Input.lines c.args.input.now) (g.I.Input.given c.args.input.now) (g.I.Input.missed c.args.input.now)) c.args.steps.now (g.O.Sink.written c.args.out.now) (g.O.Sink.faults c.args.out.now))
+          (seen (g.F.Files.holds c.layout.new.files) (g.F.Files.faults c.layout.new.files) (coming (g.I.Input.lines c.args.input.now) (g.I.Input.given c.args.input.now) (g.I.Input.missed c.args.input.now)) c.layout.new.steps (g.O.Sink.written c.layout.new.out) (g.O.Sink.faults c.layout.new.out))
+          c.layout.result c.in-Some-Layout.definition.now c.in-Some-Layout.script.now c.in-Some-Layout.rules.now c.in-Some-Layout.columns wanted (c.layout.ensures (coming (g.I.Input.lines c.args.input.now) (g.I.Input.given c.args.input.now) (g.I.Input.missed c.args.input.now)));
+      untouched = λ none. absurd (has_form (texts_of c.args.words.now) (seen (g.F.Files.holds c.args.files.now) (g.F.Files.faults c.args.files.now) (coming (g.I.Input.lines c.args.input.now) (g.I.Input.given c.args.input.now) (g.I.Input.missed c.args.input.now)) c.args.steps.now (g.O.Sink.written c.args.out.now) (g.O.Sink.faults c.args.out.now)) (seen (g.F.Files.holds c.args.files.now) (g.F.Files.faults c.args.files.now) (coming (g.I.Input.lines c.args.input.now) (g.I.Input.given c.args.input.now) (g.I.Input.missed c.args.input.now)) c.args.steps.now (g.O.Sink.written c.args.out.now) (g.O.Sink.faults c.args.out.now)) c.layout.result (layout c.in-Some-Layout.definition.now c.in-Some-Layout.script.now c.in-Some-Layout.rules.now c.in-Some-Layout.columns) wanted none);
     }
