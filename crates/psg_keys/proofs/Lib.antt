@@ -1,0 +1,5 @@
+pub mod ByteLaws
+pub mod CutLaws
+pub mod LineLaws
+pub mod NameLaws
+pub mod SizeLaws

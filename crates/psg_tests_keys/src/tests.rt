@@ -1,0 +1,3 @@
+//! Keys and lines that were worked out by hand.
+mod lines;
+mod reading;
