@@ -1,0 +1,10 @@
+pub mod SelfLanguage
+pub mod NodeParts
+pub mod SelfLines
+pub mod Export
+pub mod Worked
+pub mod Brackets
+pub mod Openings
+pub mod Signs
+pub mod Says
+pub mod Pieces
