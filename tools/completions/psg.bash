@@ -6,11 +6,11 @@ _psg() {
         first=${COMP_WORDS[2]} place=$((place - 1))
     fi
     if [ "$place" -eq 1 ]; then
-        mapfile -t COMPREPLY < <(compgen -W "check edit live gen layout codes commands help --help --version --build --explain" -- "$word")
+        mapfile -t COMPREPLY < <(compgen -W "check edit live windows gen layout codes commands help --help --version --build --explain" -- "$word")
         return
     fi
     case $first in
-    check | edit | live | layout | help)
+    check | edit | live | windows | layout)
         # the first file is a definition
         if [ "$place" -eq 2 ]; then
             mapfile -t COMPREPLY < <(compgen -f -X '!*.psg' -- "$word"; compgen -d -- "$word")

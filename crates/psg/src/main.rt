@@ -22,6 +22,8 @@ const HELP: &str = "psg: editors of small languages, from their definitions
                         SCRIPT as a command of an editor of it; the replies go to standard output
   psg live DEF          does the same with the lines of standard input; each reply is written before the next line
                         is read
+  psg windows DEF SCRIPT   runs each line of the file SCRIPT for one of eight windows, each with a cursor of its own: a
+                        digit from 0 to 7, a space and a command; each line of a reply has the digit in front
   psg gen N             plays a script that is made for the number N, from 1 to 1,000, on a language that the program
                         has, and writes five lines of the program that it builds: nodes, bytes, weight, menu, mark
   psg layout DEF SCRIPT LAY COLS   runs the script in silence, and writes the program then, arranged for COLS columns,

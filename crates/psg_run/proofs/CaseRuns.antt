@@ -17,7 +17,8 @@ use Rattle.psg_run.specs.Editing.{Edits, Editor, IsReplied, new_editor}
 use Rattle.psg_run.specs.Outputs.{FailBy, live_lines}
 use Rattle.psg_run.specs.Scripts.{script_lines}
 use Rattle.psg_run.specs.Worlds.{World, put_whole}
-use Rattle.psg_run.proofs.OneRun.{nothing_more}
+use Rattle.std.specs.Io.KnownBytes.{append_known}
+use Rattle.psg_run.proofs.Chains.{append_known-nil}
 use Rattle.psg_run.proofs.SomeOutput.{not_counted}
 
 -- carriage returns in front of a line feed go, and empty lines are no lines
@@ -76,5 +77,5 @@ module _ (def : Definition) where
           files = refl;
           input = refl;
           ticks = refl;
-          took = sym (nothing_more old.written (reply_text (refused NothingOpened) ++ []));
+          took = sym (append_known-nil (append_known old.written (reply_text (refused NothingOpened) ++ [])));
         })))

@@ -16,16 +16,18 @@ use Rattle.psg_layout.specs.declared.layout.Layout.{Layout}
 use Rattle.psg_layout.specs.Layouts.{LayoutRefusal}
 use Rattle.psg_run.specs.Arranging.{Arranges, ArrangesBy, ReadsLayout, is_bad_line, is_layout, most_layout_bytes}
 use Rattle.psg_run.specs.Arranging.{no_room_for_layout, no_room_to_arrange, tells_arranged}
-use Rattle.psg_run.specs.Chain.{Point, Runs, breaks, closes, goes, is_played, no_room_to_begin, puts_front, rests}
-use Rattle.psg_run.specs.Editing.{Edits, Editor}
+use Rattle.psg_run.specs.Chain.{IsPlayed, Point, Runs, breaks, closes, goes, is_played, no_room_to_begin, puts_front}
+use Rattle.psg_run.specs.Chain.{rests}
+use Rattle.psg_run.specs.Editing.{BreaksOff, Edits, Editor, IsReplied, JustEnds, new_editor}
 use Rattle.psg_run.specs.Generated.{Generates, no_room_to_tell, tells}
 use Rattle.psg_run.specs.Live.{EndsInput, IsRepliedLive, Talks, is_at_end, is_unread_line, no_room_for_line}
 use Rattle.psg_run.specs.Outputs.{EndsWell, HasDefinition, HasLayout, IsShort, WasRead}
-use Rattle.psg_run.specs.Promise.{check, edit, live, gen, layout}
+use Rattle.psg_run.specs.Promise.{check, edit, live, windows, gen, layout}
 use Rattle.psg_run.specs.Reading.{Defines, IsAccepted, IsRefusalLine, Reads, is_accepted, is_long, is_read, is_refused}
 use Rattle.psg_run.specs.Reading.{is_unread, most_definition_bytes, most_script_bytes, no_definition}
 use Rattle.psg_run.specs.Reading.{no_room_for_definition, no_room_for_file, not_accepted}
 use Rattle.psg_run.specs.Scripts.{script_lines}
+use Rattle.psg_run.specs.Windowed.{BreaksFor, IsPlayedFor, PlaysWindows, Windowed, new_windows}
 use Rattle.psg_run.specs.Worlds.{Act, Incoming, Puts, PutsFront, World, not_put, put_failed, put_front, put_in_part}
 use Rattle.psg_run.specs.Worlds.{put_whole}
 use Rattle.psg_run.proofs.LiveLines.{input_kept}
@@ -74,15 +76,27 @@ puts_well well sink (put_front front) = front_well sink front
 module _ (old new : World) (sink : HasRisen old.count new.count → ⊥) where
   -- ---- what is played
 
-  edit_well : (def : Definition) (lines : List (List ℕ)) (status : Status) → Edits def lines old new status
-      → IsWell status
-  edit_well def lines status
+  -- lines after which nothing more is put
+  lines_well : (S : Type 0) (Plays : Point S → List ℕ → List ℕ → Point S → Type 0)
+      (Breaks : Point S → List ℕ → Point S → Type 0) (start : S) (lines : List (List ℕ)) (status : Status)
+      → IsPlayed S Plays Breaks JustEnds start lines old new status → IsWell status
+  lines_well S Plays Breaks start lines status
       (is_played first left texts last split runs (closes t text ended (none, is_done, same) puts)) =
       puts_well (inl is_done) sink puts
-  edit_well def lines status (is_played first left texts last split runs (puts_front t text played front)) =
+  lines_well S Plays Breaks start lines status
+      (is_played first left texts last split runs (puts_front t text played front)) =
       front_well sink front
-  edit_well def lines status (is_played first left texts last split runs (breaks t broken wrote)) = inr refl
-  edit_well def lines status (no_room_to_begin same) = inr refl
+  lines_well S Plays Breaks start lines status
+      (is_played first left texts last split runs (breaks t broken wrote)) = inr refl
+  lines_well S Plays Breaks start lines status (no_room_to_begin same) = inr refl
+
+  edit_well : (def : Definition) (lines : List (List ℕ)) (status : Status) → Edits def lines old new status
+      → IsWell status
+  edit_well def lines status run = lines_well Editor (IsReplied def) (BreaksOff def) new_editor lines status run
+
+  windows_well : (def : Definition) (lines : List (List ℕ)) (status : Status) → PlaysWindows def lines old new status
+      → IsWell status
+  windows_well def lines status run = lines_well Windowed (IsPlayedFor def) (BreaksFor def) new_windows lines status run
 
   gen_well : (def : Definition) (number : ℕ) (status : Status) → Generates def number old new status → IsWell status
   gen_well def number status
@@ -190,13 +204,12 @@ module _ (old new : World) (sink : HasRisen old.count new.count → ⊥) where
       (λ ended on. lays_well def (bytes_of has.held file) (λ by. Arranges def by columns lines) ended
       (has.faultless def accepted) (λ by status told. arranges_well def by columns lines status told) on) run
 
-  script_well : (script : Name) (def : Definition) (status : Status) → IsShort old script most_script_bytes
-      → WasRead old new script
-      → Reads script most_script_bytes (λ bytes. Edits def (script_lines bytes)) old new status → IsWell status
-  script_well script def status short was run =
-      reads_well short.held script most_script_bytes (λ bytes. Edits def (script_lines bytes)) status short.known
-      short.short was
-      (λ ended on. edit_well def (script_lines (bytes_of short.held script)) ended on) run
+  script_well : (script : Name) (Next : List (List ℕ) → Act) (status : Status) → IsShort old script most_script_bytes
+      → WasRead old new script → ((lines : List (List ℕ)) (ended : Status) → Next lines old new ended → IsWell ended)
+      → Reads script most_script_bytes (λ bytes. Next (script_lines bytes)) old new status → IsWell status
+  script_well script Next status short was next run =
+      reads_well short.held script most_script_bytes (λ bytes. Next (script_lines bytes)) status short.known short.short
+      was (λ ended on. next (script_lines (bytes_of short.held script)) ended on) run
 
 -- what is known of the files is one thing
 one_held : (known : Option Held) (one other : Held) → known ≡ Some one → known ≡ Some other → one ≡ other
@@ -227,7 +240,11 @@ has_ended_well (check d) old new status run (has, was, sink) =
     (λ def ended puts. puts_well (inl refl) sink puts) run
 has_ended_well (edit d s) old new status run ((has, was, short, was_script), sink) =
     file_well old new sink d (λ def. Reads s most_script_bytes (λ bytes. Edits def (script_lines bytes))) status has was
-    (λ def ended on. script_well old new sink s def ended short was_script on) run
+    (λ def ended on. script_well old new sink s (Edits def) ended short was_script (edit_well old new sink def) on) run
+has_ended_well (windows d s) old new status run ((has, was, short, was_script), sink) =
+    file_well old new sink d (λ def. Reads s most_script_bytes (λ bytes. PlaysWindows def (script_lines bytes))) status
+    has was (λ def ended on. script_well old new sink s (PlaysWindows def) ended short was_script
+    (windows_well old new sink def) on) run
 has_ended_well (live d) old new status run (has, was, missed, sink) =
     file_well old new sink d Talks status has was (λ def ended on. live_well old new sink def ended missed on) run
 has_ended_well (gen number) old new status run ((def, accepted), sink) =

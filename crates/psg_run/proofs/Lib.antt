@@ -1,4 +1,7 @@
 pub mod Chains
+pub mod Turning
+pub mod WindowLines
+pub mod Labels
 pub mod Replied
 pub mod Onward
 pub mod Listening
@@ -10,12 +13,17 @@ pub mod Feeds
 pub mod WordForms
 pub mod LineCommands
 pub mod FormedRuns
+pub mod WindowEvents
+pub mod WindowRefusals
+pub mod WindowNodes
 pub mod OneOutput
 pub mod SomeOutput
+pub mod WindowOutputs
 pub mod LiveLines
 pub mod EndingWell
 pub mod GenFiles
 pub mod OneRun
+pub mod WindowRuns
 pub mod ArrangedRuns
 pub mod OneArranged
 pub mod CaseRuns

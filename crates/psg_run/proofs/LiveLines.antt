@@ -1,11 +1,12 @@
 -- Lines that are read from an input are replied to as those of a script.
-use Rattle.std.proofs.Common.{◌≡◌, ℕ, List, ◌∷◌, ◌++◌, refl, sym, ◌∙◌, subst, append_assoc}
+use Rattle.std.proofs.Common.{◌≡◌, ℕ, List, refl, ◌∙◌}
 use Rattle.psg_grammar.specs.declared.types.Definition.{Definition}
 use Rattle.psg_run.specs.Chain.{Point, Runs, rests, goes}
 use Rattle.psg_run.specs.Editing.{Editor, IsReplied}
 use Rattle.psg_run.specs.Live.{IsRepliedLive, with_input}
 use Rattle.psg_run.specs.Outputs.{RepliesAlike, live_lines}
 use Rattle.psg_run.specs.Worlds.{Incoming}
+use Rattle.psg_run.proofs.Chains.{runs_append}
 
 module _ (def : Definition) where
   -- a script's lines do not touch the input
@@ -23,22 +24,12 @@ module _ (def : Definition) where
       goes (with_input mid input) text texts (record { answers = played.0.answers; input = refl }, played.1)
       (over_input input more)
 
-  one_after_other : {s mid t : Point Editor} {lines more : List (List ℕ)} {texts others : List ℕ}
-      → Runs Editor (IsReplied def) s lines texts mid → Runs Editor (IsReplied def) mid more others t
-      → Runs Editor (IsReplied def) s (lines ++ more) (texts ++ others) t
-  one_after_other rests then_on = then_on
-  one_after_other {s = s} {t = t} {more = more} {others = others}
-      (goes {line = line} {rest = rest} next text texts played runs) then_on =
-      subst (λ (x : List ℕ). Runs Editor (IsReplied def) s (line ∷ (rest ++ more)) x t)
-      (sym (append_assoc text texts others))
-      (goes next text (texts ++ others) played (one_after_other runs then_on))
-
   replies_alike : {s t : Point Editor} {pieces : List (List ℕ)} {texts : List ℕ}
       → Runs Editor (IsRepliedLive def) s pieces texts t
       → Runs Editor (IsReplied def) (with_input s t.input) (live_lines pieces) texts t
   replies_alike rests = rests
   replies_alike {t = t} (goes mid text texts (input, gives, runs) more) =
-      one_after_other (over_input t.input runs) (replies_alike more)
+      runs_append Editor (IsReplied def) (over_input t.input runs) (replies_alike more)
 
 pub has_replies_alike : (def : Definition) → RepliesAlike def
 has_replies_alike def s t pieces texts runs = replies_alike def runs

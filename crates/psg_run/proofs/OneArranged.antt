@@ -1,4 +1,4 @@
--- Two runs of `layout` over the same files write the same.
+-- Two runs of `layout` over the same files write the same; and so with each form that plays a script.
 use Rattle.std.proofs.Common.{◌≡◌, ℕ, ◌≤◌, List, length, Some, refl, sym, ◌∙◌, ap, subst}
 use Rattle.std.specs.Io.KnownBytes.{append_known}
 use Rattle.psg_terms.specs.Names.{Name}
@@ -20,6 +20,7 @@ use Rattle.psg_run.specs.Worlds.{Puts, World, put_front}
 use Rattle.psg_run.proofs.ArrangedRuns.{HasArranged, has_arranged}
 use Rattle.psg_run.proofs.EndingWell.{known_bytes, one_accepted}
 use Rattle.psg_run.proofs.OneRun.{edits_alike, no_front, runs_alike, same_long, was_accepted, was_read}
+use Rattle.psg_run.proofs.WindowRuns.{windowed_alike}
 
 no_layout_put : {bytes : List ℕ} {old new : World} → Puts bytes ends_with.LayoutRefused old new ends_with.Done → ⊥
 no_layout_put (put_front front) = no_front front
@@ -82,5 +83,6 @@ layouts_alike def sound is_class definition script rules columns held old new ol
 pub has_one_run : (def : Definition) → IsSound def → IsClass def → HasOneRun def
 has_one_run def sound is_class = record {
   edits = edits_alike def sound is_class;
+  windowed = windowed_alike def sound is_class;
   layouts = layouts_alike def sound is_class;
 }

@@ -25,13 +25,15 @@ use Rattle.psg_session.specs.Shelf.{saved_at}
 use Rattle.psg_session.proofs.StepLaws.{some_once}
 use Rattle.psg_run.specs.declared.status.Status.{Status}
 use Rattle.psg_run.specs.declared.status.Status.TheVariants as ends_with
-use Rattle.psg_run.specs.Chain.{Finishes, Point, Runs, closes, first_point, goes, is_played, puts_front, rests}
+use Rattle.psg_run.specs.Chain.{Finishes, IsPlayed, Point, Runs, closes, first_point, goes, is_played, puts_front, rests}
 use Rattle.psg_run.specs.Editing.{BreaksOff, Edits, Editor, IsReplied, JustEnds, new_editor}
 use Rattle.psg_run.specs.Outputs.{HasOneRunOf}
-use Rattle.psg_run.specs.Promise.{IsRunOf, edit}
-use Rattle.psg_run.specs.Reading.{Defines, IsAccepted, Reads, is_accepted, is_read, is_refused}
+use Rattle.psg_run.specs.Promise.{edit}
+use Rattle.psg_run.specs.Reading.{Defines, IsAccepted, OnDefinition, Reads, is_accepted, is_read, is_refused}
+use Rattle.psg_run.specs.Reading.{most_script_bytes}
 use Rattle.psg_run.specs.Scripts.{script_lines}
 use Rattle.psg_run.specs.Worlds.{Act, AreBytes, Puts, PutsFront, World, Wrote, put_front, put_whole}
+use Rattle.psg_run.proofs.Chains.{append_known-nil}
 use Rattle.psg_run.proofs.EndingWell.{if_known, known_bytes, one_accepted}
 use Rattle.psg_run.proofs.LineCommands.{spelled_once}
 use Rattle.psg_run.proofs.OneOutput.{stepped_once}
@@ -44,7 +46,7 @@ same_long before after e = let same : length after ≡ length before = ap length
 one_longer : (before after : List Entry) (x : Entry) → after ≡ before ++ x ∷ [] → length after ≡ length before + 1
 one_longer before after x e = ap length e ∙ length-append before (x ∷ [])
 
-answers_grow : {before after : Outside} {asked : Option Asked} {answer : Answer} → IsAnswered before after asked answer
+pub answers_grow : {before after : Outside} {asked : Option Asked} {answer : Answer} → IsAnswered before after asked answer
     → length before.entries ≤ length after.entries
 answers_grow {before = before} {after = after} (nobody same) =
     same_long before.entries after.entries (ap (λ (x : Outside). x.entries) same)
@@ -70,20 +72,20 @@ runs_grow (goes mid text texts played more) =
 
 -- ---- files that do not fail
 
-answer_from : Held → Option Asked → Answer
+pub answer_from : Held → Option Asked → Answer
 answer_from held None = not_asked
 answer_from held (Some (keeping file bytes)) = stored
 answer_from held (Some (fetching file)) = got (front_of most_kept_bytes (bytes_of held file))
 
-held_after : Held → Option Asked → Held
+pub held_after : Held → Option Asked → Held
 held_after held None = held
 held_after held (Some (keeping file bytes)) = map.insert held file bytes
 held_after held (Some (fetching file)) = held
 
-abbrev IsToldBy : Held → Option Asked → Answer → Option Held → Type 0
+abbrev pub IsToldBy : Held → Option Asked → Answer → Option Held → Type 0
 IsToldBy held asked answer known = (answer ≡ answer_from held asked) × (known ≡ Some (held_after held asked))
 
-told : (held : Held) {before after : Outside} {asked : Option Asked} {answer : Answer} → before.held ≡ Some held
+pub told : (held : Held) {before after : Outside} {asked : Option Asked} {answer : Answer} → before.held ≡ Some held
     → length after.entries ≤ length before.entries → IsAnswered before after asked answer
     → IsToldBy held asked answer after.held
 unfolding answer_from held_after
@@ -109,7 +111,7 @@ asked_once def s (Keep name file) a b (x, is, (short, e)) (y, is', (short', e'))
 asked_once def s (Fetch file) a b e e' = e' ∙ sym e
 asked_once def s _ a b h g = absurd h
 
-asked_alike : (def : Definition) (s : State) (c : Command) (a b : Option Asked) → IsAskedBy def s c a
+pub asked_alike : (def : Definition) (s : State) (c : Command) (a b : Option Asked) → IsAskedBy def s c a
     → IsAskedBy def s c b → b ≡ a
 asked_alike def s c None None h g = refl
 asked_alike def s c None (Some b) h g = absurd (h b g)
@@ -209,80 +211,79 @@ pub was_accepted : {bytes : List ℕ} {Next : Definition → Act} {old new : Wor
 was_accepted (is_accepted def accepted on) = (def, accepted, on)
 was_accepted (is_refused line refusal puts) = absurd (no_refusal_put puts)
 
-pub nothing_more : (known : Option (List ℕ)) (texts : List ℕ)
-    → append_known (append_known known texts) [] ≡ append_known known texts
-nothing_more None texts = refl
-nothing_more (Some xs) texts = ap Some (append-nil (xs ++ texts))
+-- all lines were played, and their texts written
+module _ (S : Type 0) (Plays : Point S → List ℕ → List ℕ → Point S → Type 0) (start : S) where
+  pub record IsWhole (lines : List (List ℕ)) (old new : World) : Type 0 where
+    pub texts : List ℕ
+    pub last : Point S
+    pub runs : Runs S Plays (first_point S start old) lines texts last
+    pub wrote : new.written ≡ append_known old.written texts
+    pub files : new.files ≡ last.files
 
--- all lines were replied to, and the replies written
-record IsEdited (def : Definition) (lines : List (List ℕ)) (old new : World) : Type 0 where
-  texts : List ℕ
-  last : Point Editor
-  runs : Runs Editor (IsReplied def) (first_point Editor new_editor old) lines texts last
-  wrote : new.written ≡ append_known old.written texts
-  files : new.files ≡ last.files
+  abbrev HasFinished : World → List ℕ → Point S → List (List ℕ) → World → Type 0
+  HasFinished old texts s left new =
+      (left ≡ []) × (new.files ≡ s.files) × (new.written ≡ append_known old.written texts)
 
-abbrev HasFinished : Definition → World → List ℕ → Point Editor → List (List ℕ) → World → Type 0
-HasFinished def old texts s left new =
-    (left ≡ []) × (new.files ≡ s.files) × (new.written ≡ append_known old.written texts)
+  module _ (Breaks : Point S → List ℕ → Point S → Type 0) where
+    finished : {old new : World} {texts : List ℕ} {s : Point S} {left : List (List ℕ)}
+        → Finishes S Plays Breaks JustEnds old texts s left new ends_with.Done → HasFinished old texts s left new
+    finished {old = old} {new = new} {texts = texts} (closes t text ended (none, is_done, same) puts) =
+        let wrote = whole_put puts in (
+          refl,
+          wrote.files ∙ ap (λ (x : Point S). x.files) same,
+          wrote.took ∙ ap (append_known (append_known old.written texts)) none
+              ∙ append_known-nil (append_known old.written texts),
+        )
+    finished (puts_front t text played front) = absurd (no_front front)
 
-finished : {def : Definition} {old new : World} {texts : List ℕ} {s : Point Editor} {left : List (List ℕ)}
-    → Finishes Editor (IsReplied def) (BreaksOff def) JustEnds old texts s left new ends_with.Done
-    → HasFinished def old texts s left new
-finished {old = old} {new = new} {texts = texts} (closes t text ended (none, is_done, same) puts) =
-    let wrote = whole_put puts in (
-      refl,
-      wrote.files ∙ ap (λ (x : Point Editor). x.files) same,
-      wrote.took ∙ ap (append_known (append_known old.written texts)) none ∙ nothing_more old.written texts,
-    )
-finished (puts_front t text played front) = absurd (no_front front)
+    pub played_whole : {lines : List (List ℕ)} {old new : World}
+        → IsPlayed S Plays Breaks JustEnds start lines old new ends_with.Done → IsWhole lines old new
+    played_whole {lines = lines} {old = old} (is_played first left texts last split runs finishes) =
+        let ends = finished finishes in
+        let all : first ≡ lines = sym (split ∙ ap (λ l. first ++ l) ends.0 ∙ append-nil first) in
+        record {
+          texts = texts;
+          last = last;
+          runs = subst (λ l. Runs S Plays (first_point S start old) l texts last) all runs;
+          wrote = ends.2;
+          files = ends.1;
+        }
 
-edited : {def : Definition} {lines : List (List ℕ)} {old new : World} → Edits def lines old new ends_with.Done
-    → IsEdited def lines old new
-edited {def = def} {lines = lines} {old = old}
-    (is_played first left texts last split runs finishes) =
-    let ends = finished finishes in
-    let all : first ≡ lines = sym (split ∙ ap (λ l. first ++ l) ends.0 ∙ append-nil first) in
-    record {
-      texts = texts;
-      last = last;
-      runs = subst (λ l. Runs Editor (IsReplied def) (first_point Editor new_editor old) l texts last) all runs;
-      wrote = ends.2;
-      files = ends.1;
-    }
-
-module _ (def : Definition) (definition script : Name) (held : Held)
-    (accepted : IsAccepted (bytes_of held definition) def) where
-  was_edited : (old new : World) → old.files.held ≡ Some held → IsRunOf (edit definition script) old new ends_with.Done
-      → IsEdited def (script_lines (bytes_of held script)) old new
-  was_edited old new known run =
-      let (text, are, defines) = was_read run in
-      let (other, other_accepted, reads) = was_accepted defines in
-      let (bytes, are_script, edits) = was_read reads in
-      let is_text : text ≡ bytes_of held definition = known_bytes old.files.held held definition text known are in
-      let is_script : bytes ≡ bytes_of held script = known_bytes old.files.held held script bytes known are_script in
-      let same : other ≡ def =
-      one_accepted (bytes_of held definition) def other accepted
-      (subst (λ b. IsAccepted b other) is_text other_accepted) in
-      let here : Edits def (script_lines bytes) old new ends_with.Done =
-      subst (λ (x : Definition). Edits x (script_lines bytes) old new ends_with.Done) same edits in
-      edited (subst (λ b. Edits def (script_lines b) old new ends_with.Done) is_script here)
-
-  no_entries : (old new : World) (done : IsEdited def (script_lines (bytes_of held script)) old new)
+  pub no_entries : (lines : List (List ℕ)) (old new : World) (done : IsWhole lines old new)
       → new.files.entries ≡ old.files.entries → length done.last.files.entries ≤ length old.files.entries
-  no_entries old new done kept =
+  no_entries lines old new done kept =
       let same : done.last.files.entries ≡ old.files.entries =
       sym (ap (λ (x : Outside). x.entries) done.files) ∙ kept in
       same_long done.last.files.entries old.files.entries (sym same)
 
+-- what a run with a definition and a script did with them, where it is known what the files held
+pub was_done : (def : Definition) (definition script : Name) (held : Held) (Next : Definition → List (List ℕ) → Act)
+    → IsAccepted (bytes_of held definition) def → (old new : World) → old.files.held ≡ Some held
+    → OnDefinition definition (λ d. Reads script most_script_bytes (λ bytes. Next d (script_lines bytes))) old new
+    ends_with.Done → Next def (script_lines (bytes_of held script)) old new ends_with.Done
+was_done def definition script held Next accepted old new known run =
+    let (text, are, defines) = was_read run in
+    let (other, other_accepted, reads) = was_accepted defines in
+    let (bytes, are_script, done) = was_read reads in
+    let is_text : text ≡ bytes_of held definition = known_bytes old.files.held held definition text known are in
+    let is_script : bytes ≡ bytes_of held script = known_bytes old.files.held held script bytes known are_script in
+    let same : other ≡ def =
+    one_accepted (bytes_of held definition) def other accepted
+    (subst (λ b. IsAccepted b other) is_text other_accepted) in
+    let here : Next def (script_lines bytes) old new ends_with.Done =
+    subst (λ (x : Definition). Next x (script_lines bytes) old new ends_with.Done) same done in
+    subst (λ b. Next def (script_lines b) old new ends_with.Done) is_script here
+
 pub edits_alike : (def : Definition) → IsSound def → IsClass def → (definition script : Name)
     → HasOneRunOf def (edit definition script) definition
 edits_alike def sound is_class definition script held old new old' new' accepted run run' known known' kept kept' =
-    let one = was_edited def definition script held accepted old new known run in
-    let other = was_edited def definition script held accepted old' new' known' run' in
+    let one = played_whole Editor (IsReplied def) new_editor (BreaksOff def)
+    (was_done def definition script held Edits accepted old new known run) in
+    let other = played_whole Editor (IsReplied def) new_editor (BreaksOff def)
+    (was_done def definition script held Edits accepted old' new' known' run') in
     let both = runs_alike def sound is_class held one.runs other.runs refl known known'
-    (no_entries def definition script held accepted old new one kept)
-    (no_entries def definition script held accepted old' new' other kept') in (
+    (no_entries Editor (IsReplied def) new_editor (script_lines (bytes_of held script)) old new one kept)
+    (no_entries Editor (IsReplied def) new_editor (script_lines (bytes_of held script)) old' new' other kept') in (
       one.texts,
       one.wrote,
       other.wrote ∙ ap (append_known old'.written) both.0,

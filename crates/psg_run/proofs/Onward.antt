@@ -1,5 +1,5 @@
 -- Files and definitions that are read, and runs that go on from there.
-use Rattle.std.proofs.Common.{◌≡◌, ℕ, ◌+◌, ◌<◌, ◌≤◌, min, List, length, take, Option, Some, None, Result, Ok, Err, IfSome, IfErr, refl, sym, ◌∙◌, ap, subst, arith}
+use Rattle.std.proofs.Common.{◌≡◌, ℕ, ◌+◌, ◌<◌, ◌≤◌, min, List, length, take, Option, Some, None, Result, Ok, Err, IfSome, IfOk, IfErr, refl, sym, ◌∙◌, ap, subst, arith}
 use Rattle.std.proofs.lemmas.List.{length-take, take_all}
 use Rattle.std.specs.Prelude.{OnOk}
 use Rattle.std.specs.Io.KnownBytes.{append_known}
@@ -27,6 +27,16 @@ map_ok (Err y) f h = tt
 pub map_err : {X Y : Type 0} {P Q : Y → Type 0} (r : Result X Y) → ((y : Y) → P y → Q y) → IfErr r P → IfErr r Q
 map_err (Ok x) f h = tt
 map_err (Err y) f h = f y h
+
+-- two facts of one result
+pub both_ok : {X Y B : Type 0} {P Q : X → Type 0} (r : Result X Y) → ((x : X) → P x → B → Q x) → IfOk r P → OnOk r B
+    → IfOk r Q
+both_ok (Ok x) f p b = f x p b
+both_ok (Err y) f p b = tt
+
+pub map_if_ok : {X Y : Type 0} {P Q : X → Type 0} (r : Result X Y) → ((x : X) → P x → Q x) → IfOk r P → IfOk r Q
+map_if_ok (Ok x) f h = f x h
+map_if_ok (Err y) f h = tt
 
 -- what holds whatever the error is
 pub if_err : {X Y : Type 0} {P : Y → Type 0} (r : Result X Y) → ((y : Y) → P y) → IfErr r P

@@ -92,6 +92,50 @@ not_counted def s command answer count read_by =
       within = record { taken = h.taken; read = 0; whole = whole; within = h.within; reading = read_by };
     }
 
+-- ---- one command
+
+module _ (def : Definition) (s : State) (files : Outside) (command : Command) where
+  -- with each answer of the files that the command may get, P is not refuted
+  abbrev pub GoesOn : List Bool → Type 0 → Type 0
+  GoesOn fails P = (asked : Option Asked) (answer : Answer) (after : Outside) (left : List Bool)
+      → IsAskedBy def s command asked → IsAnswered files after asked answer → MayRead def answer 0
+      → ((answers : List Answer) → FailBy def left answers → FailBy def fails (answer ∷ answers)) → (P → ⊥) → ⊥
+
+  -- the files answer, and do not fail
+  well : {P : Type 0} (asked : Asked) (fails left : List Bool) → GoesOn fails P → Asks def s command asked
+      → ((answers : List Answer) → FailBy def left answers → FailBy def fails (stored ∷ answers))
+      → ((bytes : List ℕ) (answers : List Answer) → FailBy def left answers → FailBy def fails (got bytes ∷ answers))
+      → (P → ⊥) → ⊥
+  well (keeping file bytes) fails left go asks if_stored if_got none =
+      go (Some (keeping file bytes)) stored (files_with files file bytes) left asks (stores refl refl) refl if_stored none
+  well (fetching file) fails left go asks if_stored if_got none =
+      go (Some (fetching file)) (got (got_of files.held file)) files left asks
+      (gets refl (got_short files.held file) (got_known files.held file)) (uncounted refl)
+      (if_got (got_of files.held file)) none
+
+  -- the files fail
+  badly : {P : Type 0} (asked : Asked) (left : List Bool) → GoesOn (true ∷ left) P → Asks def s command asked
+      → (P → ⊥) → ⊥
+  badly (keeping file bytes) left go asks none =
+      go (Some (keeping file bytes)) lost (files_without files file) left asks (loses_keep refl refl) refl
+      (λ answers h. h) none
+  badly (fetching file) left go asks none =
+      go (Some (fetching file)) lost (files_unread files file) left asks (loses_fetch refl refl) refl (λ answers h. h)
+      none
+
+  asking : {P : Type 0} (asked : Asked) (fails : List Bool) → GoesOn fails P → Asks def s command asked → (P → ⊥) → ⊥
+  asking asked [] go asks none = well asked [] [] go asks (λ answers h. h) (λ bytes answers h. h) none
+  asking asked (true ∷ fails) go asks none = badly asked fails go asks none
+  asking asked (false ∷ fails) go asks none =
+      well asked (false ∷ fails) fails go asks (λ answers h. h) (λ bytes answers h. h) none
+
+  pub commanded : {P : Type 0} (fails : List Bool) → GoesOn fails P → (P → ⊥) → ⊥
+  commanded fails go none =
+      go None not_asked files fails (λ asked asks. asking asked fails go asks none) (nobody refl) refl (λ answers h. h)
+      none
+
+-- ---- all lines
+
 module _ (def : Definition) (some : HasSomeStep def (IsCompletable def))
     (keeps : KeepsForm def (IsCompletable def)) where
   -- the lines do not lack replies from any state
@@ -103,11 +147,9 @@ module _ (def : Definition) (some : HasSomeStep def (IsCompletable def))
   module _ (line : List ℕ) (rest : List (List ℕ)) (s : Point Editor) (formed : IsFormedState def s.state.state)
       (more : NeverLack rest) (command : Command) (spells : Spells line command) where
     -- the command is answered, and the run goes on
-    by_answer : (asked : Option Asked) (answer : Answer) (after : Outside) (fails left : List Bool)
-        → IsAskedBy def s.state.state command asked → IsAnswered s.files after asked answer → MayRead def answer 0
-        → ((answers : List Answer) → FailBy def left answers → FailBy def fails (answer ∷ answers))
-        → (HasReplies def s (line ∷ rest) fails → ⊥) → ⊥
-    by_answer asked answer after fails left asks answers read_by fail none =
+    by_answer : (fails : List Bool)
+        → GoesOn def s.state.state s.files command fails (HasReplies def s (line ∷ rest) fails)
+    by_answer fails asked answer after left asks answers read_by fail none =
         some s.state.state command s.files after asked answer (has_text command line spells) formed asks answers
         (λ h. more (point_after s h.next h.reply after) left
         (keeps s.state.state h.next answer command h.reply (has_text command line spells) formed h.steps)
@@ -131,46 +173,12 @@ module _ (def : Definition) (some : HasSomeStep def (IsCompletable def))
           fail = fail (answers_in def r.runs) r.fail;
         })))
 
-    -- the files answer, and do not fail
-    well : (asked : Asked) (fails left : List Bool) → Asks def s.state.state command asked
-        → ((answers : List Answer) → FailBy def left answers → FailBy def fails (stored ∷ answers))
-        → ((bytes : List ℕ) (answers : List Answer) → FailBy def left answers → FailBy def fails (got bytes ∷ answers))
-        → (HasReplies def s (line ∷ rest) fails → ⊥) → ⊥
-    well (keeping file bytes) fails left asks if_stored if_got none =
-        by_answer (Some (keeping file bytes)) stored (files_with s.files file bytes) fails left asks
-        (stores refl refl) refl if_stored none
-    well (fetching file) fails left asks if_stored if_got none =
-        by_answer (Some (fetching file)) (got (got_of s.files.held file)) s.files fails left asks
-        (gets refl (got_short s.files.held file) (got_known s.files.held file)) (uncounted refl)
-        (if_got (got_of s.files.held file)) none
-
-    -- the files fail
-    badly : (asked : Asked) (left : List Bool) → Asks def s.state.state command asked
-        → (HasReplies def s (line ∷ rest) (true ∷ left) → ⊥) → ⊥
-    badly (keeping file bytes) left asks none =
-        by_answer (Some (keeping file bytes)) lost (files_without s.files file) (true ∷ left) left asks
-        (loses_keep refl refl) refl (λ answers h. h) none
-    badly (fetching file) left asks none =
-        by_answer (Some (fetching file)) lost (files_unread s.files file) (true ∷ left) left asks
-        (loses_fetch refl refl) refl (λ answers h. h) none
-
-    asking : (asked : Asked) (fails : List Bool) → Asks def s.state.state command asked
-        → (HasReplies def s (line ∷ rest) fails → ⊥) → ⊥
-    asking asked [] asks none = well asked [] [] asks (λ answers h. h) (λ bytes answers h. h) none
-    asking asked (true ∷ fails) asks none = badly asked fails asks none
-    asking asked (false ∷ fails) asks none =
-        well asked (false ∷ fails) fails asks (λ answers h. h) (λ bytes answers h. h) none
-
-    commanded : (fails : List Bool) → (HasReplies def s (line ∷ rest) fails → ⊥) → ⊥
-    commanded fails none =
-        by_answer None not_asked s.files fails fails (λ asked asks. asking asked fails asks none) (nobody refl) refl
-        (λ answers h. h) none
-
   never_lack : (lines : List (List ℕ)) → NeverLack lines
   never_lack [] s fails formed none = none (record { texts = []; end = s; runs = rests; fail = tt })
   never_lack (line ∷ rest) s fails formed none =
       let never : (command : Command) → Spells line command → ⊥ =
-      λ command spells. commanded line rest s formed (never_lack rest) command spells fails none in
+      λ command spells. commanded def s.state.state s.files command fails
+      (by_answer line rest s formed (never_lack rest) command spells fails) none in
       never_lack rest (point_after s s.state.state (refused NoCommand) s.files) fails formed
       (λ r. none (record {
         texts = reply_text (refused NoCommand) ++ r.texts;

@@ -9,7 +9,7 @@ use Rattle.psg_run.specs.declared.status.Status.{Status}
 use Rattle.psg_run.specs.declared.status.Status.TheVariants as ends_with
 use Rattle.psg_run.specs.Worlds.{World, texts_of}
 use Rattle.psg_run.specs.Arranging.{most_columns}
-use Rattle.psg_run.specs.Promise.{Form, check, edit, live, gen, layout, HasNoForm, IsForm, IsRunOf, IsRun}
+use Rattle.psg_run.specs.Promise.{Form, check, edit, live, windows, gen, layout, HasNoForm, IsForm, IsRunOf, IsRun}
 
 pub two_words : (words : List (String Global)) (a b : String Global) → 2 ≤ length words → length words < 3 → a ≡ get_or words 0 a → b ≡ get_or words 1 b
     → texts_of words ≡ string_bytes a ∷ string_bytes b ∷ []
@@ -59,6 +59,7 @@ pub two_other : (a b : Name) → (a ≡ codes "check" → ⊥) → (a ≡ codes 
 two_other a b no_check no_live no_gen (check d) e = no_check cc
 two_other a b no_check no_live no_gen (edit d s) e = cc
 two_other a b no_check no_live no_gen (live d) e = no_live cc
+two_other a b no_check no_live no_gen (windows d s) e = cc
 two_other a b no_check no_live no_gen (gen n) (e, low, high) = no_gen cc
 two_other a b no_check no_live no_gen (layout d s l n) (e, low, high) = cc
 
@@ -66,6 +67,7 @@ two_other a b no_check no_live no_gen (layout d s l n) (e, low, high) = cc
 pub no_number : (a b : Name) → a ≡ codes "gen" → ((n : ℕ) → IsNumeralUpTo 1000 n b → ⊥) → HasNoForm (a ∷ b ∷ [])
 no_number a b is never (check d) e = not_check (sym is ∙ first_is a (codes "check") (b ∷ []) (d ∷ []) e)
 no_number a b is never (edit d s) e = cc
+no_number a b is never (windows d s) e = cc
 no_number a b is never (live d) e = not_live_gen (sym is ∙ first_is a (codes "live") (b ∷ []) (d ∷ []) e)
 no_number a b is never (gen n) (e, low, high) = never n ((omega (arith, high), second_is a (codes "gen") b (decimal n) e), low, high)
 no_number a b is never (layout d s l n) (e, low, high) = cc
@@ -74,12 +76,13 @@ no_number a b is never (layout d s l n) (e, low, high) = cc
 pub number_wanted : (a b : Name) (n : ℕ) → a ≡ codes "gen" → IsNumeralUpTo 1000 n b → IsForm (a ∷ b ∷ []) (gen n)
 number_wanted a b n is (numeral, low, high) = (ap₂ (λ x y. x ∷ y ∷ []) is numeral.1, low, high)
 
-pub three_other : (a b c : Name) → (a ≡ codes "edit" → ⊥) → HasNoForm (a ∷ b ∷ c ∷ [])
-three_other a b c never (check d) e = cc
-three_other a b c never (edit d s) e = never cc
-three_other a b c never (live d) e = cc
-three_other a b c never (gen n) (e, low, high) = cc
-three_other a b c never (layout d s l n) (e, low, high) = cc
+pub three_other : (a b c : Name) → (a ≡ codes "edit" → ⊥) → (a ≡ codes "windows" → ⊥) → HasNoForm (a ∷ b ∷ c ∷ [])
+three_other a b c no_edit no_windows (check d) e = cc
+three_other a b c no_edit no_windows (edit d s) e = no_edit cc
+three_other a b c no_edit no_windows (live d) e = cc
+three_other a b c no_edit no_windows (windows d s) e = no_windows cc
+three_other a b c no_edit no_windows (gen n) (e, low, high) = cc
+three_other a b c no_edit no_windows (layout d s l n) (e, low, high) = cc
 
 -- five words of which the first is another one, or the last no number of columns
 pub five_other : (a b c d e : Name) → (a ≡ codes "layout" → (n : ℕ) → IsNumeralUpTo most_columns n e → ⊥)
@@ -87,6 +90,7 @@ pub five_other : (a b c d e : Name) → (a ≡ codes "layout" → (n : ℕ) → 
 five_other a b c d e never (check x) p = cc
 five_other a b c d e never (edit x y) p = cc
 five_other a b c d e never (live x) p = cc
+five_other a b c d e never (windows x y) p = cc
 five_other a b c d e never (gen n) (p, low, high) = cc
 five_other a b c d e never (layout x y z n) (p, low, high) =
     let first : a ≡ codes "layout" = cc in
@@ -104,11 +108,13 @@ pub other_count : (words : List (String Global)) → (length words ≡ 2 → ⊥
 other_count [] two three five (check d) e = cc
 other_count [] two three five (edit d s) e = cc
 other_count [] two three five (live d) e = cc
+other_count [] two three five (windows d s) e = cc
 other_count [] two three five (gen n) (e, low, high) = cc
 other_count [] two three five (layout d s l n) (e, low, high) = cc
 other_count (x ∷ []) two three five (check d) e = cc
 other_count (x ∷ []) two three five (edit d s) e = cc
 other_count (x ∷ []) two three five (live d) e = cc
+other_count (x ∷ []) two three five (windows d s) e = cc
 other_count (x ∷ []) two three five (gen n) (e, low, high) = cc
 other_count (x ∷ []) two three five (layout d s l n) (e, low, high) = cc
 other_count (x ∷ y ∷ []) two three five form e = absurd (two refl)
@@ -116,12 +122,14 @@ other_count (x ∷ y ∷ z ∷ []) two three five form e = absurd (three refl)
 other_count (x ∷ y ∷ z ∷ w ∷ []) two three five (check d) e = cc
 other_count (x ∷ y ∷ z ∷ w ∷ []) two three five (edit d s) e = cc
 other_count (x ∷ y ∷ z ∷ w ∷ []) two three five (live d) e = cc
+other_count (x ∷ y ∷ z ∷ w ∷ []) two three five (windows d s) e = cc
 other_count (x ∷ y ∷ z ∷ w ∷ []) two three five (gen n) (e, low, high) = cc
 other_count (x ∷ y ∷ z ∷ w ∷ []) two three five (layout d s l n) (e, low, high) = cc
 other_count (x ∷ y ∷ z ∷ w ∷ v ∷ []) two three five form e = absurd (five refl)
 other_count (x ∷ y ∷ z ∷ w ∷ v ∷ u ∷ more) two three five (check d) e = cc
 other_count (x ∷ y ∷ z ∷ w ∷ v ∷ u ∷ more) two three five (edit d s) e = cc
 other_count (x ∷ y ∷ z ∷ w ∷ v ∷ u ∷ more) two three five (live d) e = cc
+other_count (x ∷ y ∷ z ∷ w ∷ v ∷ u ∷ more) two three five (windows d s) e = cc
 other_count (x ∷ y ∷ z ∷ w ∷ v ∷ u ∷ more) two three five (gen n) (e, low, high) = cc
 other_count (x ∷ y ∷ z ∷ w ∷ v ∷ u ∷ more) two three five (layout d s l n) (e, low, high) = cc
 
@@ -132,6 +140,12 @@ not_live e = true≢false (ap (λ w. bytes_eq w (codes "check")) e)
 
 check_is : (d e : Name) → codes "check" ∷ d ∷ [] ≡ codes "live" ∷ e ∷ [] → codes "check" ≡ codes "live"
 check_is d e whole = cc
+
+not_windows : codes "edit" ≡ codes "windows" → ⊥
+not_windows e = true≢false (ap (λ w. bytes_eq w (codes "edit")) e)
+
+three_is : (d s e t : Name) → codes "edit" ∷ d ∷ s ∷ [] ≡ codes "windows" ∷ e ∷ t ∷ [] → codes "edit" ≡ codes "windows"
+three_is d s e t whole = cc
 
 one_form : (words : List Name) (a b : Form) → IsForm words a → IsForm words b → a ≡ b
 one_form words (check d) (check e) p q = let whole : codes "check" ∷ d ∷ [] ≡ codes "check" ∷ e ∷ [] = sym p ∙ q in cc
@@ -151,6 +165,17 @@ one_form words (gen n) (live d) (p, low, high) q = absurd (not_live_gen (first_i
 one_form words (gen n) (gen m) (p, low, high) (q, low', high') =
     ap gen (decimal_injective n m (omega (arith, high)) (omega (arith, high'))
     (second_is (codes "gen") (codes "gen") (decimal n) (decimal m) (sym p ∙ q)))
+one_form words (check d) (windows e s) p q = let whole : codes "check" ∷ d ∷ [] ≡ codes "windows" ∷ e ∷ s ∷ [] = sym p ∙ q in cc
+one_form words (windows d s) (check e) p q = let whole : codes "windows" ∷ d ∷ s ∷ [] ≡ codes "check" ∷ e ∷ [] = sym p ∙ q in cc
+one_form words (live d) (windows e s) p q = let whole : codes "live" ∷ d ∷ [] ≡ codes "windows" ∷ e ∷ s ∷ [] = sym p ∙ q in cc
+one_form words (windows d s) (live e) p q = let whole : codes "windows" ∷ d ∷ s ∷ [] ≡ codes "live" ∷ e ∷ [] = sym p ∙ q in cc
+one_form words (windows d s) (gen n) p (q, low, high) = let whole : codes "windows" ∷ d ∷ s ∷ [] ≡ codes "gen" ∷ decimal n ∷ [] = sym p ∙ q in cc
+one_form words (gen n) (windows d s) (p, low, high) q = let whole : codes "windows" ∷ d ∷ s ∷ [] ≡ codes "gen" ∷ decimal n ∷ [] = sym q ∙ p in cc
+one_form words (edit d s) (windows e t) p q = absurd (not_windows (three_is d s e t (sym p ∙ q)))
+one_form words (windows d s) (edit e t) p q = absurd (not_windows (three_is e t d s (sym q ∙ p)))
+one_form words (windows d s) (windows e t) p q = let whole : codes "windows" ∷ d ∷ s ∷ [] ≡ codes "windows" ∷ e ∷ t ∷ [] = sym p ∙ q in cc
+one_form words (windows x y) (layout d s l n) p (q, low, high) = let whole : codes "windows" ∷ x ∷ y ∷ [] ≡ codes "layout" ∷ d ∷ s ∷ l ∷ decimal n ∷ [] = sym p ∙ q in cc
+one_form words (layout d s l n) (windows x y) (p, low, high) q = let whole : codes "layout" ∷ d ∷ s ∷ l ∷ decimal n ∷ [] ≡ codes "windows" ∷ x ∷ y ∷ [] = sym p ∙ q in cc
 one_form words (check x) (layout d s l n) p (q, low, high) = let whole : codes "check" ∷ x ∷ [] ≡ codes "layout" ∷ d ∷ s ∷ l ∷ decimal n ∷ [] = sym p ∙ q in cc
 one_form words (edit x y) (layout d s l n) p (q, low, high) = let whole : codes "edit" ∷ x ∷ y ∷ [] ≡ codes "layout" ∷ d ∷ s ∷ l ∷ decimal n ∷ [] = sym p ∙ q in cc
 one_form words (live x) (layout d s l n) p (q, low, high) = let whole : codes "live" ∷ x ∷ [] ≡ codes "layout" ∷ d ∷ s ∷ l ∷ decimal n ∷ [] = sym p ∙ q in cc
@@ -182,6 +207,10 @@ module _ (words : List Name) (old new : World) (status : Status) where
   pub of_edit : (definition script : Name) → words ≡ codes "edit" ∷ definition ∷ script ∷ [] → IsRunOf (edit definition script) old new status
       → IsRun words old new status
   of_edit definition script is ran = of_form (edit definition script) is ran
+
+  pub of_windows : (definition script : Name) → words ≡ codes "windows" ∷ definition ∷ script ∷ [] → IsRunOf (windows definition script) old new status
+      → IsRun words old new status
+  of_windows definition script is ran = of_form (windows definition script) is ran
 
   pub of_live : (definition : Name) → words ≡ codes "live" ∷ definition ∷ [] → IsRunOf (live definition) old new status → IsRun words old new status
   of_live definition is ran = of_form (live definition) is ran

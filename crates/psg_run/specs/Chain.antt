@@ -19,8 +19,8 @@ module _ (S : Type 0) where
   abbrev pub first_point : S → World → Point S
   first_point state old = record { state = state; files = old.files; input = old.input; ticks = old.ticks }
 
-  -- The world at this point of a run that began in the old one and wrote these bytes. The count is that of the beginning,
-  -- so a fault of the sink counts if it happened since the run began.
+  -- The world at this point of a run that began in the old one and wrote these bytes. The count is that of the
+  -- beginning, so a fault of the sink counts if it happened since the run began.
   abbrev pub world_at : World → List ℕ → Point S → World
   world_at old texts t = record {
     files = t.files;
@@ -42,8 +42,8 @@ module _ (S : Type 0) (Plays : Point S → List ℕ → List ℕ → Point S →
   -- `Closes s text done t`: there is no line left, the text is put, and the status is `done` where it is put whole.
   module _ (Breaks : Point S → List ℕ → Point S → Type 0) (Closes : Point S → List ℕ → Status → Point S → Type 0) where
     -- Finishes old texts s left new status: a run that began in the world `old` and wrote these texts is at s, with
-    -- these lines left, and ends. Where no line is left, it closes. Else it ends at the first of them: this was played,
-    -- and its text was not put whole; or memory ran out within it.
+    -- these lines left, and ends. Where no line is left, it closes. Else it ends at the first of them: this was
+    -- played, and its text was not put whole; or memory ran out within it.
     pub data Finishes (old : World) (texts : List ℕ) (s : Point S) : List (List ℕ) → World → Status → Type 0 where
       closes : {status : Status} {new : World} (t : Point S) (text : List ℕ) (done : Status)
           → Closes s text done t → Puts text done (world_at S old texts t) new status
@@ -55,8 +55,8 @@ module _ (S : Type 0) (Plays : Point S → List ℕ → List ℕ → Point S →
           → Breaks s line t → Wrote [] (world_at S old texts t) new
           → Finishes old texts s (line ∷ rest) new ends_with.Memory
 
-    -- The lines are played from this state on: the first ones to their end, and then the run ends. Or there is no memory
-    -- to begin with.
+    -- The lines are played from this state on: the first ones to their end, and then the run ends. Or there is no
+    -- memory to begin with.
     pub data IsPlayed (start : S) (lines : List (List ℕ)) (old new : World) : Status → Type 0 where
       is_played : {status : Status} (first left : List (List ℕ)) (texts : List ℕ) (last : Point S)
           → lines ≡ first ++ left → Runs (first_point S start old) first texts last

@@ -39,7 +39,7 @@ module _ (def : Definition) where
   IsSilent s line text t = IsNext s line t × (text ≡ [])
 
 -- after the last line nothing is put, and all is well
-abbrev pub JustEnds : Point Editor → List ℕ → Status → Point Editor → Type 0
+abbrev pub JustEnds : {S : Type 0} → Point S → List ℕ → Status → Point S → Type 0
 JustEnds s text done t = (text ≡ []) × (done ≡ ends_with.Done) × (t ≡ s)
 
 -- the plain editor of the definition replies to the lines

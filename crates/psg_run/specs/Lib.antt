@@ -3,6 +3,7 @@ pub mod Chain
 pub mod Scripts
 pub mod Editing
 pub mod Live
+pub mod Windowed
 pub mod Generated
 pub mod Reading
 pub mod Arranging
@@ -10,5 +11,7 @@ pub mod Promise
 pub mod Codes
 pub mod Endings
 pub mod Playing
+pub mod Turns
 pub mod Outputs
+pub mod WindowLaws
 pub mod Wanted

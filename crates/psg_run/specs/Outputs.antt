@@ -23,7 +23,7 @@ use Rattle.psg_run.specs.Arranging.{Arranges, most_layout_bytes}
 use Rattle.psg_run.specs.Chain.{Point, Runs, first_point, rests, goes}
 use Rattle.psg_run.specs.Editing.{Editor, IsReplied, new_editor}
 use Rattle.psg_run.specs.Live.{IsRepliedLive, heard, with_input}
-use Rattle.psg_run.specs.Promise.{Form, IsRunOf, check, edit, live, gen, layout}
+use Rattle.psg_run.specs.Promise.{Form, IsRunOf, check, edit, live, windows, gen, layout}
 use Rattle.psg_run.specs.Reading.{IsAccepted, most_definition_bytes, most_script_bytes}
 use Rattle.psg_run.specs.Worlds.{IsFrontOf, World, with_failed_read}
 
@@ -42,12 +42,13 @@ module _ (def : Definition) where
   answers_in rests = []
   answers_in (goes mid text texts line more) = answer_in line.0.answers ∷ answers_in more
 
-  -- Lines that lead from one state, with the same answers of the files, get the same replies and lead to one state. With
-  -- fewer lines and the first of the answers, they get a front of the replies.
+  -- Lines that lead from one state, with the same answers of the files, get the same replies and lead to one state.
+  -- With fewer lines and the first of the answers, they get a front of the replies.
   pub record HasOneOutput : Type 0 where
     pub whole : (s s' t t' : Point Editor) (lines : List (List ℕ)) (texts texts' : List ℕ)
         (a : Runs Editor (IsReplied def) s lines texts t) (b : Runs Editor (IsReplied def) s' lines texts' t')
-        → s'.state.state ≡ s.state.state → answers_in b ≡ answers_in a → (texts' ≡ texts) × (t'.state.state ≡ t.state.state)
+        → s'.state.state ≡ s.state.state → answers_in b ≡ answers_in a
+        → (texts' ≡ texts) × (t'.state.state ≡ t.state.state)
     pub front : (s s' t t' : Point Editor) (first more : List (List ℕ)) (texts texts' : List ℕ)
         (answers : List Answer)
         (a : Runs Editor (IsReplied def) s first texts t) (b : Runs Editor (IsReplied def) s' (first ++ more) texts' t')
@@ -169,6 +170,7 @@ GoesWell (edit d s) old new = ScriptGoesWell old new d s × (HasRisen old.count 
 GoesWell (live d) old new =
     HasDefinition old d × WasRead old new d × (new.input.missed ≡ old.input.missed)
     × (HasRisen old.count new.count → ⊥)
+GoesWell (windows d s) old new = ScriptGoesWell old new d s × (HasRisen old.count new.count → ⊥)
 GoesWell (gen number) old new =
     ((def : Definition) × IsAccepted MINI.now def) × (HasRisen old.count new.count → ⊥)
 GoesWell (layout d s rules columns) old new =
@@ -193,5 +195,6 @@ HasOneRunOf def form definition = (held : Held) (old new old' new' : World)
 -- That is so of each form that plays a script on a file's definition.
 pub record HasOneRun (def : Definition) : Type 0 where
   pub edits : (definition script : Name) → HasOneRunOf def (edit definition script) definition
+  pub windowed : (definition script : Name) → HasOneRunOf def (windows definition script) definition
   pub layouts : (definition script rules : Name) (columns : ℕ)
       → HasOneRunOf def (layout definition script rules columns) definition

@@ -22,7 +22,8 @@ abbrev pub last_of : Option Given → Reply
 last_of (Some reply) = reply_of reply
 last_of None = answered []
 
--- The line was played, and its reply put. The session was in the state s with the reply `before`, and is in the state t.
+-- The line was played, and its reply put. The session was in the state s with the reply `before`, and is in the state
+-- t.
 pub record PutsReply (def : Definition) (line : List ℕ) (s t : State) (before : Reply) (old new : World) : Type 0 where
   pub reply : Reply
   pub text : List ℕ

@@ -1,6 +1,7 @@
 -- The promise of a run of the program. Reading says what a run reads, Chain how lines are played, Editing and Live what
--- the plain editor does with them, Generated what `gen` tells, Arranging what `layout` tells, and Worlds what is outside
--- and what is put. (Playing and Endings are about the calls of this crate, and Outputs about its laws.)
+-- the plain editor does with them, Windowed what it does for several windows, Generated what `gen` tells, Arranging what
+-- `layout` tells, and Worlds what is outside and what is put. (Playing, Turns and Endings are about the calls of this
+-- crate, and Outputs and WindowLaws about its laws.)
 use Rattle.std.specs.Prelude.{ℕ, ◌≡◌, ◌≤◌, List, [], ◌∷◌, codes, decimal}
 use Rattle.psg_langs.specs.declared.named.TheConstants.{MINI}
 use Rattle.psg_terms.specs.Names.{Name}
@@ -13,6 +14,7 @@ use Rattle.psg_run.specs.Generated.{Generates}
 use Rattle.psg_run.specs.Live.{Talks}
 use Rattle.psg_run.specs.Reading.{Defines, OnDefinition, Reads, most_script_bytes}
 use Rattle.psg_run.specs.Scripts.{script_lines}
+use Rattle.psg_run.specs.Windowed.{PlaysWindows}
 use Rattle.psg_run.specs.Worlds.{Act, Puts, World}
 
 -- What the words ask for. `rules` is the file of a layout.
@@ -20,6 +22,7 @@ pub data Form : Type 0 where
   check : (definition : Name) → Form
   edit : (definition script : Name) → Form
   live : (definition : Name) → Form
+  windows : (definition script : Name) → Form
   gen : (number : ℕ) → Form
   layout : (definition script rules : Name) (columns : ℕ) → Form
 
@@ -28,6 +31,7 @@ abbrev pub IsForm : List Name → Form → Type 0
 IsForm words (check definition) = words ≡ codes "check" ∷ definition ∷ []
 IsForm words (edit definition script) = words ≡ codes "edit" ∷ definition ∷ script ∷ []
 IsForm words (live definition) = words ≡ codes "live" ∷ definition ∷ []
+IsForm words (windows definition script) = words ≡ codes "windows" ∷ definition ∷ script ∷ []
 IsForm words (gen number) = (words ≡ codes "gen" ∷ decimal number ∷ []) × (1 ≤ number) × (number ≤ 1000)
 IsForm words (layout definition script rules columns) =
     (words ≡ codes "layout" ∷ definition ∷ script ∷ rules ∷ decimal columns ∷ [])
@@ -43,6 +47,8 @@ IsRunOf (check definition) = OnDefinition definition (λ def. Puts (feed (codes 
 IsRunOf (edit definition script) =
     OnDefinition definition (λ def. Reads script most_script_bytes (λ bytes. Edits def (script_lines bytes)))
 IsRunOf (live definition) = OnDefinition definition Talks
+IsRunOf (windows definition script) =
+    OnDefinition definition (λ def. Reads script most_script_bytes (λ bytes. PlaysWindows def (script_lines bytes)))
 IsRunOf (gen number) = Defines MINI.now (λ def. Generates def number)
 IsRunOf (layout definition script rules columns) =
     OnDefinition definition

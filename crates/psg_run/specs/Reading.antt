@@ -37,8 +37,8 @@ pub data IsRefusalLine (bytes line : List ℕ) : Type 0 where
       → line ≡ refusal_text def fault → IsRefusalLine bytes line
 
 module _ (file : Name) (limit : ℕ) (Next : List ℕ → Act) where
-  -- The file is read, and the run goes on with its bytes. Or it ends here: the read failed, and added its entry; or the
-  -- file is too long; or memory ran out. Nothing else happened then.
+  -- The file is read, and the run goes on with its bytes. Or it ends here: the read failed, and added its entry; or
+  -- the file is too long; or memory ran out. Nothing else happened then.
   pub data Reads (old new : World) : Status → Type 0 where
     is_read : {status : Status} (bytes : List ℕ) → AreBytes old file bytes → length bytes ≤ limit
         → Next bytes old new status → Reads old new status
@@ -48,8 +48,8 @@ module _ (file : Name) (limit : ℕ) (Next : List ℕ → Act) where
     no_room_for_file : new ≡ old → Reads old new ends_with.Memory
 
 module _ (bytes : List ℕ) (Next : Definition → Act) where
-  -- The bytes are an accepted definition, and the run goes on with it. Or it ends here: they are none, and the line that
-  -- says why is put; or memory ran out, and nothing else happened.
+  -- The bytes are an accepted definition, and the run goes on with it. Or it ends here: they are none, and the line
+  -- that says why is put; or memory ran out, and nothing else happened.
   pub data Defines (old new : World) : Status → Type 0 where
     is_accepted : {status : Status} (def : Definition) → IsAccepted bytes def → Next def old new status
         → Defines old new status

@@ -9,6 +9,8 @@ ghost use Rattle.psg_lexis.specs.Tokens.{IsFixedWord};
 ghost use Rattle.psg_run.specs.Outputs.{ArrangedReadsBack, EndsWell, HasOneOutput, HasOneRun, HasSomeOutput};
 ghost use Rattle.psg_run.specs.Outputs.{KeepsForms, LeavesFiles, RepliesAlike};
 ghost use Rattle.psg_run.specs.Reading.{IsAccepted as IsAcceptedText, IsRefusalLine};
+ghost use Rattle.psg_run.specs.WindowLaws.{HasOneWindowOutput, HasSomeWindowOutput};
+ghost use Rattle.psg_run.specs.WindowLaws.{RefusalsMoveNothing, WindowsArePlain, WindowsStandAtNodes};
 ghost use Rattle.psg_specimen.specs.Refusal.{IsAccepted};
 
 use psg_grammar::Definition;
@@ -21,9 +23,9 @@ pub fn one_output(definition: &Definition)
     ensures { HasOneOutput definition.now }
 {}
 
-/// States that no script lacks an output, whatever the files hold and whichever of their calls fail: that there is none
-/// is refuted. With `one_output` there is exactly one, by excluded middle. So what is said of the output of a run speaks
-/// of something. The call has no cost.
+/// States that no script lacks an output, whatever the files hold and whichever of their calls fail: that there is
+/// none is refuted. With `one_output` there is exactly one, by excluded middle. So what is said of the output of a run
+/// speaks of something. The call has no cost.
 pub fn some_output(definition: &Definition)
     requires sound { IsSound definition.now }
     requires words { AllByRecursion IsFixedWord (fixed_words definition.now) }
@@ -71,10 +73,51 @@ pub fn gen_leaves_files()
     ensures { LeavesFiles }
 {}
 
-/// States that two runs of `edit` on the definition, or two of `layout`, with status 0 and over files that held the same,
-/// write the same and leave the same files, if no call of the files failed. The call has no cost.
+/// States that two runs of `edit` on the definition, or two of `windows`, or two of `layout`, with status 0 and over
+/// files that held the same, write the same and leave the same files, if no call of the files failed. The call has no
+/// cost.
 pub fn one_run(definition: &Definition)
     requires sound { IsSound definition.now }
     requires class { IsClass definition.now }
     ensures { HasOneRun definition.now }
+{}
+
+/// States that lines of windows are commands of the plain editor, one after the other. Each line that spells a command
+/// for a window is that command, with the window's cursor in place of `.`; any other line is refused with 1 and
+/// changes nothing. What is put is the replies in order, each line of a reply to a window after its digit and a space.
+/// The call has no cost.
+pub fn windows_are_plain(definition: &Definition)
+    ensures { WindowsArePlain definition.now }
+{}
+
+/// States that a line of a window which is refused leaves the editor and the cursors of all windows as they were. The
+/// call has no cost.
+pub fn refusals_move_nothing(definition: &Definition)
+    ensures { RefusalsMoveNothing definition.now }
+{}
+
+/// States that lines of windows lead to states whose trees are printable and of their kinds, and leave the cursor of
+/// each window at a node of the opened program; if nothing is opened, all cursors are at the top. The call has no
+/// cost.
+pub fn windows_stand_at_nodes(definition: &Definition)
+    requires sound { IsSound definition.now }
+    requires accepted { IsAccepted definition.now }
+    ensures { WindowsStandAtNodes definition.now }
+{}
+
+/// States that the plain editor gives lines of windows one output and leads them to one state with the same cursors,
+/// if no text is read as two trees. The call has no cost.
+pub fn one_window_output(definition: &Definition)
+    requires sound { IsSound definition.now }
+    requires class { IsClass definition.now }
+    ensures { HasOneWindowOutput definition.now }
+{}
+
+/// States that no lines of windows lack an output, whatever the files hold and whichever of their calls fail: that
+/// there is none is refuted. The call has no cost.
+pub fn some_window_output(definition: &Definition)
+    requires sound { IsSound definition.now }
+    requires words { AllByRecursion IsFixedWord (fixed_words definition.now) }
+    requires accepted { IsAccepted definition.now }
+    ensures { HasSomeWindowOutput definition.now }
 {}

@@ -2,8 +2,9 @@
 //!
 //! `run(alloc, &words, &mut files, &mut input, &mut out, &mut steps)` does what the words say. For `check DEF` it says
 //! whether a file has a definition. For `edit DEF SCRIPT` it writes the replies of the plain editor, which is defined in
-//! psg_session's specs and knows nothing but trees. For `live DEF` it writes them to the lines of the input. For `gen N`
-//! it says how large a program is that it makes. For `layout DEF SCRIPT LAY COLS` it writes the program of the script,
+//! psg_session's specs and knows nothing but trees. For `live DEF` it writes them to the lines of the input. For
+//! `windows DEF SCRIPT` each line of the script is for one of eight windows, which have a cursor each. For `gen N` it
+//! says how large a program is that it makes. For `layout DEF SCRIPT LAY COLS` it writes the program of the script,
 //! arranged by the layout for so many columns.
 #![tactic(auto)]
 
@@ -18,6 +19,8 @@ pub mod program;
 mod silent;
 mod source;
 pub mod status;
+mod window_texts;
+mod windows;
 mod words;
 
 pub use program::run;

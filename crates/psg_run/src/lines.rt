@@ -15,7 +15,7 @@ pub struct Cut<'a> {
 }
 
 /// Returns the place of the first line feed, if there is one.
-fn first_feed(bytes: &[u8]) -> Option<usize>
+pub fn first_feed(bytes: &[u8]) -> Option<usize>
     ensures { result ≡ position is_feed bytes.now }
 {
     bytes.iter().position(|byte| *byte == b'\n')

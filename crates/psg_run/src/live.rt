@@ -40,9 +40,11 @@ pub fn talk<F: Files, I: Input, O: Sink, L: Ledger>(
 ) -> Status
     requires start { state_of session.old.editor ≡ start }
     ensures { Talks session.old.language
-        (seen (F.holds files.old) (F.faults files.old) (coming (I.lines input.old) (I.given input.old) (I.missed input.old))
+        (seen (F.holds files.old) (F.faults files.old)
+        (coming (I.lines input.old) (I.given input.old) (I.missed input.old))
         steps.old (O.written out.old) (O.faults out.old))
-        (seen (F.holds files.new) (F.faults files.new) (coming (I.lines input.new) (I.given input.new) (I.missed input.new))
+        (seen (F.holds files.new) (F.faults files.new)
+        (coming (I.lines input.new) (I.given input.new) (I.missed input.new))
         steps.new (O.written out.new) (O.faults out.new)) result }
 {
     for _ in 0..u64::MAX {

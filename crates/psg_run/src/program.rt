@@ -4,9 +4,10 @@ ghost use Rattle.psg_run.specs.Arranging.{ArrangesBy};
 ghost use Rattle.psg_run.specs.Editing.{Edits};
 ghost use Rattle.psg_run.specs.Live.{Talks};
 ghost use Rattle.psg_run.specs.Promise.{HasNoForm, IsRun, IsRunOf, check as check_of, edit as edit_of};
-ghost use Rattle.psg_run.specs.Promise.{layout as layout_of, live as live_of};
+ghost use Rattle.psg_run.specs.Promise.{layout as layout_of, live as live_of, windows as windows_of};
 ghost use Rattle.psg_run.specs.Reading.{Reads, most_script_bytes};
 ghost use Rattle.psg_run.specs.Scripts.{script_lines};
+ghost use Rattle.psg_run.specs.Windowed.{PlaysWindows};
 ghost use Rattle.psg_run.specs.Worlds.{Incoming, coming, seen, texts_of};
 
 use crate::arranging::arrange_by;
@@ -16,6 +17,7 @@ use crate::live::talk;
 use crate::play::play;
 use crate::source::{put_line, read_language, read_within};
 use crate::status::Status;
+use crate::windows::play_windows;
 use crate::words::{Form, form_of};
 use psg_session::Session;
 use psg_specimen::Language;
@@ -116,6 +118,52 @@ fn edit<F: Files, O: Sink, L: Ledger>(
     play_file(alloc, language, script, files, out, steps)
 }
 
+/// Reads the script, and plays it for windows on a new session of the language.
+fn play_window_file<F: Files, O: Sink, L: Ledger>(
+    alloc: Global,
+    language: Language,
+    script: &str,
+    files: &mut F,
+    out: &mut O,
+    steps: &mut Steps<L>,
+) -> Status
+    ensures { (input : Incoming) → Reads script.now most_script_bytes
+        (λ bytes. PlaysWindows language (script_lines bytes))
+        (seen (F.holds files.old) (F.faults files.old) input steps.old (O.written out.old) (O.faults out.old))
+        (seen (F.holds files.new) (F.faults files.new) input steps.new (O.written out.new) (O.faults out.new))
+        result }
+{
+    let bytes = match read_within(alloc, script, MOST_SCRIPT_BYTES, files) {
+        Ok(bytes) => bytes,
+        Err(status) => return status,
+    };
+    let Ok(mut session) = Session::new(alloc, language) else {
+        return Status::Memory;
+    };
+    play_windows(alloc, &mut session, bytes.as_slice(), files, out, steps)
+}
+
+/// Plays the script on the definition, each line of it for a window. The order of tests is that of `edit`.
+fn windows<F: Files, O: Sink, L: Ledger>(
+    alloc: Global,
+    definition: &str,
+    script: &str,
+    files: &mut F,
+    out: &mut O,
+    steps: &mut Steps<L>,
+) -> Status
+    ensures { (input : Incoming) → IsRunOf (windows_of definition.now script.now)
+        (seen (F.holds files.old) (F.faults files.old) input steps.old (O.written out.old) (O.faults out.old))
+        (seen (F.holds files.new) (F.faults files.new) input steps.new (O.written out.new) (O.faults out.new))
+        result }
+{
+    let language = match read_language(alloc, definition, files, out) {
+        Ok(language) => language,
+        Err(status) => return status,
+    };
+    play_window_file(alloc, language, script, files, out, steps)
+}
+
 /// Plays the lines of the input on the definition. The order of tests is: the definition is read, its length, whether
 /// it is one, whether it is accepted, then the lines as they are read.
 fn live<F: Files, I: Input, O: Sink, L: Ledger>(
@@ -127,9 +175,11 @@ fn live<F: Files, I: Input, O: Sink, L: Ledger>(
     steps: &mut Steps<L>,
 ) -> Status
     ensures { IsRunOf (live_of definition.now)
-        (seen (F.holds files.old) (F.faults files.old) (coming (I.lines input.old) (I.given input.old) (I.missed input.old))
+        (seen (F.holds files.old) (F.faults files.old)
+        (coming (I.lines input.old) (I.given input.old) (I.missed input.old))
         steps.old (O.written out.old) (O.faults out.old))
-        (seen (F.holds files.new) (F.faults files.new) (coming (I.lines input.new) (I.given input.new) (I.missed input.new))
+        (seen (F.holds files.new) (F.faults files.new)
+        (coming (I.lines input.new) (I.given input.new) (I.missed input.new))
         steps.new (O.written out.new) (O.faults out.new)) result }
 {
     let language = match read_language(alloc, definition, files, out) {
@@ -170,11 +220,12 @@ fn layout<F: Files, O: Sink, L: Ledger>(
 /// Does what the words say, and returns how that ended; `Status` says when each ending is returned. `check DEF` says in
 /// one line whether the file DEF has a definition that is accepted. `edit DEF SCRIPT` plays each line of the file
 /// SCRIPT, a command, on an editor of the definition; the replies go to `out`. `live DEF` plays the lines of the input
-/// likewise, and puts the reply to each before it reads the next one. `gen N` plays a script that is made for the
-/// number N, from 1 to 1,000, on the language MINI, and writes five lines of the program then. `layout DEF SCRIPT LAY
-/// COLS` plays a script as `edit` does, but in silence. Then it writes the opened program, arranged by the file LAY for
-/// COLS columns, from 1 to 400, or `none` if nothing is opened. `steps` counts evaluations of nodes and list suffixes: a
-/// command evaluates what is new and what is above it.
+/// likewise, and puts the reply to each before it reads the next one. `windows DEF SCRIPT` plays the lines of a file
+/// for eight windows, each with a cursor of its own: a line is a digit from 0 to 7, a space and a command. `gen N` plays
+/// a script that is made for the number N, from 1 to 1,000, on the language MINI, and writes five lines of the program
+/// then. `layout DEF SCRIPT LAY COLS` plays a script as `edit` does, but in silence. Then it writes the opened program,
+/// arranged by the file LAY for COLS columns, from 1 to 400, or `none` if nothing is opened. `steps` counts evaluations
+/// of nodes and list suffixes: a command evaluates what is new and what is above it.
 pub fn run<F: Files, I: Input, O: Sink, L: Ledger>(
     alloc: Global,
     words: &[String],
@@ -184,9 +235,11 @@ pub fn run<F: Files, I: Input, O: Sink, L: Ledger>(
     steps: &mut Steps<L>,
 ) -> Status
     ensures run { IsRun (texts_of words.now)
-        (seen (F.holds files.old) (F.faults files.old) (coming (I.lines input.old) (I.given input.old) (I.missed input.old))
+        (seen (F.holds files.old) (F.faults files.old)
+        (coming (I.lines input.old) (I.given input.old) (I.missed input.old))
         steps.old (O.written out.old) (O.faults out.old))
-        (seen (F.holds files.new) (F.faults files.new) (coming (I.lines input.new) (I.given input.new) (I.missed input.new))
+        (seen (F.holds files.new) (F.faults files.new)
+        (coming (I.lines input.new) (I.given input.new) (I.missed input.new))
         steps.new (O.written out.new) (O.faults out.new)) result }
     // for words of no form nothing is even read: no call had one of the three
     ensures untouched { HasNoForm (texts_of words.now)
@@ -196,6 +249,9 @@ pub fn run<F: Files, I: Input, O: Sink, L: Ledger>(
         Some(Form::Check { definition }) => check(alloc, definition, files, out),
         Some(Form::Edit { definition, script }) => {
             edit(alloc, definition, script, files, out, steps)
+        }
+        Some(Form::Windows { definition, script }) => {
+            windows(alloc, definition, script, files, out, steps)
         }
         Some(Form::Live { definition }) => live(alloc, definition, files, input, out, steps),
         Some(Form::Gen { number }) => generate(alloc, number, files, out, steps),

@@ -46,8 +46,8 @@ fn apply_some<F: Files, L: Ledger>(
     }
 }
 
-/// Plays the lines of the script, and returns the reply to the last one; none where there is no line. Nothing is put. It
-/// takes the time of the script and of its commands.
+/// Plays the lines of the script, and returns the reply to the last one; none where there is no line. Nothing is put.
+/// It takes the time of the script and of its commands.
 pub fn apply_all<F: Files, L: Ledger>(
     alloc: Global,
     session: &mut Session,

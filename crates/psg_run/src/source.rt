@@ -121,7 +121,8 @@ pub fn language_of<O: Sink>(alloc: Global, text: &[u8], out: &mut O) -> Result<L
     requires { length text.now < 2 ^ 32 }
     ensures ok { IfOk result (λ l. IsAccepted text.now l) }
     ensures quiet { IfOk result (λ _. out.new ≡ out.old) }
-    ensures err { IfErr result (λ status. (files : Outside) (input : Incoming) (ticks : ℕ) → Defines text.now (λ _. Nowhere)
+    ensures err { IfErr result (λ status. (files : Outside) (input : Incoming) (ticks : ℕ)
+        → Defines text.now (λ _. Nowhere)
         (seen files.held files.entries input ticks (O.written out.old) (O.faults out.old))
         (seen files.held files.entries input ticks (O.written out.new) (O.faults out.new)) status) }
 {

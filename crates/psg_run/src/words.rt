@@ -24,6 +24,11 @@ pub enum Form<'a> {
     Live {
         definition: &'a str,
     },
+    /// `windows DEF SCRIPT`
+    Windows {
+        definition: &'a str,
+        script: &'a str,
+    },
     /// `gen N`
     Gen {
         number: u32,
@@ -71,6 +76,8 @@ fn of_three<'a>(form: &str, definition: &'a str, script: &'a str) -> Option<Form
 {
     if form == "edit" {
         Some(Form::Edit { definition, script })
+    } else if form == "windows" {
+        Some(Form::Windows { definition, script })
     } else {
         None
     }

@@ -7,6 +7,7 @@ mod generated;
 mod kept;
 mod limits;
 mod sessions;
+mod windows;
 
 use psg_run::{Status, run};
 use psg_terms::Steps;

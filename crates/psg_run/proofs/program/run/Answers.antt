@@ -1,8 +1,8 @@
 use Rattle.std.proofs.Common.{◌≡◌, [], ◌∷◌}
 use Rattle.std.specs.Prelude.{codes}
-use Rattle.psg_run.specs.Promise.{check, edit, gen, layout, live}
+use Rattle.psg_run.specs.Promise.{check, edit, gen, layout, live, windows}
 use Rattle.psg_run.specs.Worlds.{coming, seen, texts_of}
-use Rattle.psg_run.proofs.WordForms.{has_form, of_check, of_edit, of_gen, of_layout, of_live}
+use Rattle.psg_run.proofs.WordForms.{has_form, of_check, of_edit, of_gen, of_layout, of_live, of_windows}
 use Rattle.psg_run.proofs.program.run.Goals as goal
 
 pub returns-in-Some-Check : goal.returns-in-Some-Check
@@ -23,6 +23,16 @@ returns-in-Some-Edit g c =
           (seen (g.F.Files.holds c.edit.new.files) (g.F.Files.faults c.edit.new.files) (coming (g.I.Input.lines c.args.input.now) (g.I.Input.given c.args.input.now) (g.I.Input.missed c.args.input.now)) c.edit.new.steps (g.O.Sink.written c.edit.new.out) (g.O.Sink.faults c.edit.new.out))
           c.edit.result c.in-Some-Edit.definition.now c.in-Some-Edit.script.now wanted (c.edit.ensures (coming (g.I.Input.lines c.args.input.now) (g.I.Input.given c.args.input.now) (g.I.Input.missed c.args.input.now)));
       untouched = λ none. absurd (has_form (texts_of c.args.words.now) (seen (g.F.Files.holds c.args.files.now) (g.F.Files.faults c.args.files.now) (coming (g.I.Input.lines c.args.input.now) (g.I.Input.given c.args.input.now) (g.I.Input.missed c.args.input.now)) c.args.steps.now (g.O.Sink.written c.args.out.now) (g.O.Sink.faults c.args.out.now)) (seen (g.F.Files.holds c.args.files.now) (g.F.Files.faults c.args.files.now) (coming (g.I.Input.lines c.args.input.now) (g.I.Input.given c.args.input.now) (g.I.Input.missed c.args.input.now)) c.args.steps.now (g.O.Sink.written c.args.out.now) (g.O.Sink.faults c.args.out.now)) c.edit.result (edit c.in-Some-Edit.definition.now c.in-Some-Edit.script.now) wanted none);
+    }
+
+pub returns-in-Some-Windows : goal.returns-in-Some-Windows
+returns-in-Some-Windows g c =
+    let wanted : texts_of c.args.words.now ≡ codes "windows" ∷ c.in-Some-Windows.definition.now ∷ c.in-Some-Windows.script.now ∷ [] = rw c.in-Some-Windows.field-0-is at c.in-Some-Windows.ensures in
+    record {
+      run = of_windows (texts_of c.args.words.now) (seen (g.F.Files.holds c.args.files.now) (g.F.Files.faults c.args.files.now) (coming (g.I.Input.lines c.args.input.now) (g.I.Input.given c.args.input.now) (g.I.Input.missed c.args.input.now)) c.args.steps.now (g.O.Sink.written c.args.out.now) (g.O.Sink.faults c.args.out.now))
+          (seen (g.F.Files.holds c.windows.new.files) (g.F.Files.faults c.windows.new.files) (coming (g.I.Input.lines c.args.input.now) (g.I.Input.given c.args.input.now) (g.I.Input.missed c.args.input.now)) c.windows.new.steps (g.O.Sink.written c.windows.new.out) (g.O.Sink.faults c.windows.new.out))
+          c.windows.result c.in-Some-Windows.definition.now c.in-Some-Windows.script.now wanted (c.windows.ensures (coming (g.I.Input.lines c.args.input.now) (g.I.Input.given c.args.input.now) (g.I.Input.missed c.args.input.now)));
+      untouched = λ none. absurd (has_form (texts_of c.args.words.now) (seen (g.F.Files.holds c.args.files.now) (g.F.Files.faults c.args.files.now) (coming (g.I.Input.lines c.args.input.now) (g.I.Input.given c.args.input.now) (g.I.Input.missed c.args.input.now)) c.args.steps.now (g.O.Sink.written c.args.out.now) (g.O.Sink.faults c.args.out.now)) (seen (g.F.Files.holds c.args.files.now) (g.F.Files.faults c.args.files.now) (coming (g.I.Input.lines c.args.input.now) (g.I.Input.given c.args.input.now) (g.I.Input.missed c.args.input.now)) c.args.steps.now (g.O.Sink.written c.args.out.now) (g.O.Sink.faults c.args.out.now)) c.windows.result (windows c.in-Some-Windows.definition.now c.in-Some-Windows.script.now) wanted none);
     }
 
 pub returns-in-Some-Live : goal.returns-in-Some-Live
