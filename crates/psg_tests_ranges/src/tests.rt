@@ -34,11 +34,7 @@ fn mini(alloc: Global) -> Result<Definition, AllocError>
 }
 
 /// The tokens of a text.
-fn tokens(
-    alloc: Global,
-    definition: &Definition,
-    text: &str,
-) -> Result<Vec<Spanned>, AllocError> {
+fn tokens(alloc: Global, definition: &Definition, text: &str) -> Result<Vec<Spanned>, AllocError> {
     let words = fixed_words(alloc, definition)?;
     let lexis = Lexis::new(alloc, words.as_slice())?;
     match lex(alloc, &lexis, text) {
@@ -116,7 +112,10 @@ const ROWS: &[Rows<'static>] = &[
             ("call p((1), ...)", " 0-9:1 3-8 4-5"),
             ("call p((1) + 2, (x))", " 0-13:1 3-12 3-8 4-5 7-8 10-11:10"),
             ("call p((1))", " 0-7:1 3-6 4-5"),
-            ("call p(((a) + b), c)", " 0-13:1 3-12 4-9 5-6:5 8-9:8 11-12:11"),
+            (
+                "call p(((a) + b), c)",
+                " 0-13:1 3-12 4-9 5-6:5 8-9:8 11-12:11",
+            ),
             ("begin do end", " 0-3 1-1 2-2"),
             (
                 "begin var x : int; proc p (a : int, b : bool) skip do x := a; ... end",

@@ -24,24 +24,45 @@ const READ: &[(&[&[u8]], &str)] = &[
     // a sequence waits for its rest
     (&[b"\x1B[", b"3", b"~"], "Delete"),
     (&[b"\x1BO", b"H"], "Home"),
-    (&[b"\x1B[1~\x1B[4~\x1B[5~\x1B[6~\x1B[Z"], "Home End PageUp PageDown BackTab"),
+    (
+        &[b"\x1B[1~\x1B[4~\x1B[5~\x1B[6~\x1B[Z"],
+        "Home End PageUp PageDown BackTab",
+    ),
     // a sequence that is broken off
     (&[b"\x1B[1\x1B[A"], "Unknown1b5b31 Up"),
     (&[b"\x1B[\r"], "Unknown1b5b Enter"),
-    (&[b"\x1B[111111111111111111111111111111A"], "Unknown1b5b313131313131313131313131313131313131313131313131313131313131 'A'"),
+    (
+        &[b"\x1B[111111111111111111111111111111A"],
+        "Unknown1b5b313131313131313131313131313131313131313131313131313131313131 'A'",
+    ),
     // sizes, and a key that looks like one
     (&[b"\x1B[24;80R"], "Size24x80"),
     (&[b"\x1B[1;5R"], "Unknown1b5b313b3552"),
     (&[b"\x1B[2", b"4;8", b"0R"], "Size24x80"),
-    (&[b"\x1B[99999;99999R\x1B[100000;2R"], "Size99999x99999 Unknown1b5b3130303030303b3252"),
+    (
+        &[b"\x1B[99999;99999R\x1B[100000;2R"],
+        "Size99999x99999 Unknown1b5b3130303030303b3252",
+    ),
     // pastes, in which no escape is a key
-    (&[b"\x1B[200~a\rb\x1B[201~c"], "PasteBegins ^61 ^d ^62 PasteEnds 'c'"),
-    (&[b"\x1B[200~", b"a\x1B", b"[20", b"1~"], "PasteBegins ^61 PasteEnds"),
-    (&[b"\x1B[200~\x1B[A\x1B[201~"], "PasteBegins ^1b ^5b ^41 PasteEnds"),
+    (
+        &[b"\x1B[200~a\rb\x1B[201~c"],
+        "PasteBegins ^61 ^d ^62 PasteEnds 'c'",
+    ),
+    (
+        &[b"\x1B[200~", b"a\x1B", b"[20", b"1~"],
+        "PasteBegins ^61 PasteEnds",
+    ),
+    (
+        &[b"\x1B[200~\x1B[A\x1B[201~"],
+        "PasteBegins ^1b ^5b ^41 PasteEnds",
+    ),
     (&[b"\x1B[200~\xE5", b"\xA4", b"\x89"], "PasteBegins ^5909"),
     (&[b"\x1B[201~"], "Unknown1b5b3230317e"),
     // control characters
-    (&[b"\r\n\t\x7F\x08\x03\x12\x15"], "Enter Ctrl-j Tab Backspace Backspace Ctrl-c Ctrl-r Ctrl-u"),
+    (
+        &[b"\r\n\t\x7F\x08\x03\x12\x15"],
+        "Enter Ctrl-j Tab Backspace Backspace Ctrl-c Ctrl-r Ctrl-u",
+    ),
     (&[b"\x00\x1C"], "Unknown00 Unknown1c"),
     (&[b"\xC2\x9BA"], "Unknownc29b 'A'"),
     // bytes that begin no character
