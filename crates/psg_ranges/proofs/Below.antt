@@ -1,18 +1,17 @@
 -- What a node is made of is read, by the shape of the tree.
-use Rattle.std.proofs.Common.{◌≡◌, ◌⊎◌, inl, inr, ℕ, zero, suc, ◌+◌, ◌≤◌, ◌<◌, Bool, true, false, List, [], ◌∷◌, ◌++◌, length, Option, Some, None, slice_get, refl, sym, ap, ◌∙◌, subst, arith, append_assoc, append-nil, length-append}
+use Rattle.std.proofs.Common.{◌≡◌, ℕ, suc, ◌+◌, ◌<◌, Bool, true, false, List, [], ◌∷◌, ◌++◌, length, Some, None, slice_get, refl, sym, ap, ◌∙◌, subst, arith, append_assoc, append-nil, length-append}
 use Rattle.psg_grammar.specs.declared.types.Item.{Item}
 use Rattle.psg_grammar.specs.declared.types.Operator.{Operator}
 use Rattle.psg_grammar.specs.declared.types.Definition.{Definition}
 use Rattle.psg_grammar.specs.Fragments.{Fragment, hole, ending, cell, operator, with_child, with_name, with_number, with_text, anything, observed, top_operator}
 use Rattle.psg_tree.specs.declared.tree.Part.{Part}
 use Rattle.psg_tree.specs.declared.tree.Part.TheVariants.{Sub, Name, Number, Text}
-use Rattle.psg_tree.specs.Shapes.{list_of, with_parts, with_part}
-use Rattle.psg_class.specs.Places.{solid}
+use Rattle.psg_tree.specs.Shapes.{list_of, with_parts}
 use Rattle.psg_class.specs.Terminals.{Token, placeholder}
 use Rattle.psg_class.specs.Yields.{PartsYield, no_items, of_word, of_refers, of_declares, of_number, of_text, of_slot, of_list_slot, ListYields, no_elements, only_more, elements, SomeYield, last_element, and_more, and_elements}
 use Rattle.psg_ranges.specs.declared.reading.Reader.{Reader}
-use Rattle.psg_ranges.specs.Forests.{Core, hole_core, operator_core, Forest, no_nodes, of_parts, names_of, ranges_in}
-use Rattle.psg_ranges.specs.Walking.{items_in, parts_in, leading_parts, core_leading, core_names, core_below, list_below, IsWithin, Reads, ReadsNames, ReadsBelow, ReadsOperator, ReadsElements}
+use Rattle.psg_ranges.specs.Forests.{Core, hole_core, operator_core}
+use Rattle.psg_ranges.specs.Walking.{items_in, parts_in, core_leading, core_names, core_below, list_below, IsWithin, ReadsNames, ReadsBelow, ReadsOperator, ReadsElements}
 
 -- ---- the parts of an operator
 

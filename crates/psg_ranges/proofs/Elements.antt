@@ -1,6 +1,5 @@
 -- The elements of a list are read.
-use Rattle.std.proofs.Common.{◌≡◌, ◌⊎◌, inl, inr, ℕ, zero, suc, ◌+◌, ◌≤◌, ◌<◌, ◌==◌, ◌&&◌, not, Bool, true, false, List, [], ◌∷◌, ◌++◌, length, Option, Some, None, slice_get, refl, sym, ap, ◌∙◌, subst, arith, append_assoc, append-nil, length-append}
-use Rattle.std.proofs.lemmas.Bool.{false≢true, true≢false}
+use Rattle.std.proofs.Common.{◌≡◌, ◌⊎◌, inl, inr, ℕ, suc, ◌+◌, ◌≤◌, ◌<◌, ◌==◌, ◌&&◌, not, Bool, true, false, List, [], ◌∷◌, ◌++◌, length, Some, slice_get, refl, sym, ap, ◌∙◌, subst, arith, append_assoc, append-nil, length-append}
 use Rattle.std.proofs.lemmas.Bool.Decides.{nat_tests}
 use Rattle.psg_grammar.specs.declared.types.ListKind.{ListKind}
 use Rattle.psg_grammar.specs.declared.types.Definition.{Definition}
@@ -11,7 +10,7 @@ use Rattle.psg_class.specs.Yields.{TreeYields, ListYields, no_elements, only_mor
 use Rattle.psg_ranges.specs.declared.ranges.Range.{Range}
 use Rattle.psg_ranges.specs.declared.reading.Reader.{Reader}
 use Rattle.psg_ranges.specs.Brackets.{element_brackets, is_bracketed}
-use Rattle.psg_ranges.specs.Forests.{Forest, no_nodes, of_tree, of_elements, ranges_in}
+use Rattle.psg_ranges.specs.Forests.{no_nodes, of_tree, of_elements, ranges_in}
 use Rattle.psg_ranges.specs.Walking.{list_below, Reads, ReadsNode, ReadsElements}
 use Rattle.psg_ranges.proofs.Parts.{tree_beside}
 

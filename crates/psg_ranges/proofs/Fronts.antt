@@ -1,5 +1,5 @@
 -- The brackets in front of all that is in a tree are the opening ones that its tokens begin with.
-use Rattle.std.proofs.Common.{◌≡◌, ◌⊎◌, inl, inr, ℕ, zero, suc, ◌+◌, ◌≤◌, cond, Bool, true, false, List, [], ◌∷◌, ◌++◌, length, drop, Option, Some, None, slice_get, refl, sym, ap, ◌∙◌, subst, arith, append_assoc}
+use Rattle.std.proofs.Common.{◌≡◌, inl, inr, ℕ, suc, ◌+◌, ◌≤◌, cond, Bool, true, false, List, [], ◌∷◌, ◌++◌, length, drop, Option, Some, None, slice_get, refl, sym, ap, ◌∙◌, subst, arith, append_assoc}
 use Rattle.std.proofs.lemmas.Bool.{false≢true, true≢false, cases_Bool}
 use Rattle.std.proofs.Math.Seq.{drop-append-add}
 use Rattle.psg_grammar.specs.declared.types.Kind.TheVariants as kinds
@@ -10,10 +10,9 @@ use Rattle.psg_grammar.specs.declared.types.Operator.{Operator}
 use Rattle.psg_grammar.specs.declared.types.Definition.{Definition}
 use Rattle.psg_grammar.specs.Fragments.{Fragment}
 use Rattle.psg_class.specs.Places.{solid}
-use Rattle.psg_class.specs.Terminals.{Token, word, numeral, quoted, placeholder, Terminal, fixed, open_bracket, terminal_of, item_terminal}
-use Rattle.psg_class.specs.Class.{IsClass}
+use Rattle.psg_class.specs.Terminals.{Token, word, numeral, quoted, placeholder, Terminal, fixed, open_bracket, item_terminal}
 use Rattle.psg_class.specs.Yields.{TreeYields, of_hole, of_operator, in_brackets, PartsYield, no_items, of_word, of_refers, of_declares, of_number, of_text, of_slot, of_list_slot}
-use Rattle.psg_class.proofs.ClassFacts.{ClassFacts, facts}
+use Rattle.psg_class.proofs.ClassFacts.{ClassFacts}
 use Rattle.psg_ranges.specs.Brackets.{is_open, is_bracketed, opening}
 use Rattle.psg_ranges.specs.Walking.{leading, leading_parts, IsBracketed}
 use Rattle.psg_ranges.proofs.Rows.{AllOpen, OpensNone, opening_row}

@@ -1,5 +1,5 @@
 -- A tree is read with the brackets around it; a node is read with its range.
-use Rattle.std.proofs.Common.{◌≡◌, ◌⊎◌, inl, inr, ℕ, zero, suc, ◌+◌, ◌-◌, ◌≤◌, cond, Bool, true, false, List, [], ◌∷◌, ◌++◌, length, drop, slice_get, refl, sym, ap, ◌∙◌, subst, arith, append_assoc, append-nil, length-append}
+use Rattle.std.proofs.Common.{◌≡◌, ◌⊎◌, inl, inr, ℕ, suc, ◌+◌, ◌-◌, ◌≤◌, cond, Bool, false, List, [], ◌∷◌, ◌++◌, length, drop, slice_get, refl, sym, ap, ◌∙◌, arith, append_assoc, append-nil, length-append}
 use Rattle.std.specs.Prelude.{slice_set}
 use Rattle.std.proofs.Math.Seq.{drop-append-add, drop-append_seam, set-append_seam}
 use Rattle.psg_grammar.specs.declared.types.Definition.{Definition}
@@ -9,10 +9,10 @@ use Rattle.psg_class.specs.Yields.{TreeYields, ListYields, no_elements, only_mor
 use Rattle.psg_class.proofs.ClassFacts.{ClassFacts}
 use Rattle.psg_ranges.specs.declared.ranges.Range.{Range}
 use Rattle.psg_ranges.specs.declared.reading.Reader.{Reader}
-use Rattle.psg_ranges.specs.Brackets.{is_bracketed, opening, closing, closes_first}
+use Rattle.psg_ranges.specs.Brackets.{is_bracketed, opening, closing}
 use Rattle.psg_ranges.specs.Forests.{Core, Forest, no_nodes, node, of_tree, of_list, ranges_in}
-use Rattle.psg_ranges.specs.Walking.{leading, core_leading, core_names, core_below, list_below, IsBracketed, IsWithin, IsQuiet, IsOpened, IsClosed, Reads, ReadsNames, ReadsNode, ReadsShape, ReadsBelow}
-use Rattle.psg_ranges.proofs.Rows.{AllClose, closing_row, closing_none}
+use Rattle.psg_ranges.specs.Walking.{leading, core_names, core_below, list_below, IsBracketed, IsWithin, IsQuiet, IsOpened, IsClosed, Reads, ReadsNode, ReadsShape, ReadsBelow}
+use Rattle.psg_ranges.proofs.Rows.{closing_row, closing_none}
 use Rattle.psg_ranges.proofs.Peeled.{Peeled, peel}
 use Rattle.psg_ranges.proofs.Fronts.{passed}
 

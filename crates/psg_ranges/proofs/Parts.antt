@@ -1,5 +1,5 @@
 -- The items of an operator are read, with the parts that are for them.
-use Rattle.std.proofs.Common.{◌≡◌, ◌⊎◌, inl, inr, ℕ, zero, suc, ◌+◌, ◌≤◌, ◌<◌, max, cond, Bool, true, false, List, [], ◌∷◌, ◌++◌, length, Option, Some, None, slice_get, refl, sym, ap, ◌∙◌, subst, arith, append_assoc, append-nil, length-append}
+use Rattle.std.proofs.Common.{◌≡◌, inl, inr, ℕ, suc, ◌+◌, ◌<◌, max, cond, Bool, true, false, List, [], ◌∷◌, ◌++◌, length, Some, None, slice_get, refl, sym, ap, ◌∙◌, subst, arith, append_assoc, append-nil, length-append}
 use Rattle.std.proofs.lemmas.Bool.{cases_Bool}
 use Rattle.std.proofs.lemmas.List.{length-map}
 use Rattle.psg_grammar.specs.declared.types.Kind.{Kind}
@@ -13,19 +13,17 @@ use Rattle.psg_lexis.specs.declared.token.Spanned.{Spanned}
 use Rattle.psg_class.specs.Texts.{tokens_of}
 use Rattle.psg_grammar.specs.Fragments.{Fragment, operator, with_child}
 use Rattle.psg_tree.specs.declared.tree.Part.{Part}
-use Rattle.psg_tree.specs.declared.tree.Part.TheVariants.{Sub, Name, Number, Text}
 use Rattle.psg_class.specs.Places.{solid}
 use Rattle.psg_class.specs.Terminals.{Token, Terminal, close_bracket, terminal_of, item_terminal}
-use Rattle.psg_class.specs.Follow.{Led, Follow, by_bracket}
+use Rattle.psg_class.specs.Follow.{by_bracket}
 use Rattle.psg_class.specs.Yields.{TreeYields, of_hole, of_operator, in_brackets, PartsYield, no_items, of_word, of_refers, of_declares, of_number, of_text, of_slot, of_list_slot, ListYields, no_elements, only_more, elements}
 use Rattle.psg_class.proofs.ClassFacts.{ClassFacts}
 use Rattle.psg_class.proofs.Beginnings.{Head, head_of}
-use Rattle.psg_ranges.specs.declared.ranges.Range.{Range}
 use Rattle.psg_ranges.specs.declared.reading.Reader.{Reader}
-use Rattle.psg_ranges.specs.Brackets.{is_close, closes_first, has_brackets, is_bracketed}
+use Rattle.psg_ranges.specs.Brackets.{is_close, closes_first, has_brackets}
 use Rattle.psg_ranges.specs.Forests.{Forest, no_nodes, node, of_tree, of_parts, of_list, of_elements, names_of, ranges_in}
 use Rattle.psg_parse.specs.Lookups.{IsBare}
-use Rattle.psg_ranges.specs.Walking.{behind_first, behind_item, first_sub, leading_kind, left_of, names_at, slot_kind, BeginsOtherwise, parts_in, leading, leading_parts, IsBracketed, IsWithin, IsQuiet, Reads, ReadsNames, ReadsNode, ReadsOperator, ReadsParts, ReadsItem, ReadsChild, IsNext}
+use Rattle.psg_ranges.specs.Walking.{behind_first, behind_item, first_sub, leading_kind, left_of, names_at, slot_kind, BeginsOtherwise, parts_in, leading, leading_parts, IsBracketed, IsWithin, IsQuiet, ReadsNames, ReadsNode, ReadsOperator, ReadsParts, ReadsItem, ReadsChild, IsNext}
 use Rattle.psg_ranges.proofs.Peeled.{close_says}
 use Rattle.psg_ranges.proofs.Fronts.{phylum_in}
 

@@ -1,22 +1,22 @@
 -- A tree is a core with brackets around it.
-use Rattle.std.proofs.Common.{◌≡◌, ◌⊎◌, inl, inr, ℕ, zero, suc, ◌+◌, ◌<◌, ◌==◌, ◌&&◌, Bool, true, false, List, [], ◌∷◌, ◌++◌, length, Some, slice_get, refl, sym, ap, ◌∙◌, subst, arith, append_assoc, append-nil, length-append, eqb-true, eq-eqb, codes}
+use Rattle.std.proofs.Common.{◌≡◌, ◌⊎◌, inl, inr, ℕ, zero, suc, ◌+◌, ◌<◌, ◌==◌, ◌&&◌, Bool, true, false, List, [], ◌∷◌, ◌++◌, length, refl, sym, ap, ◌∙◌, arith, append_assoc, append-nil, length-append, eqb-true, eq-eqb, codes}
 use Rattle.std.specs.Prelude.{bytes_eq, chars, encode_utf8_all}
 use Rattle.std.specs.Str.{IsAscii}
 use Rattle.std.specs.List.{list_all}
 use Rattle.std.proofs.lemmas.Str.{chars-IsAscii}
 use Rattle.std.proofs.lemmas.Str.Ascii.{IsAscii-nil}
 use Rattle.psg_terms.specs.Words.{starts_word, goes_on_word}
-use Rattle.std.proofs.lemmas.Bool.{false≢true, true≢false, cases_Bool}
+use Rattle.std.proofs.lemmas.Bool.{false≢true}
 use Rattle.psg_grammar.specs.declared.types.Definition.{Definition}
 use Rattle.psg_grammar.specs.Fragments.{Fragment}
 use Rattle.psg_grammar.specs.WellFormed.{fixed_words}
 use Rattle.psg_terms.specs.Names.{is_among}
 use Rattle.psg_lexis.specs.Classes.{is_solo}
 use Rattle.psg_lexis.proofs.Disjoint.{solo_apart}
-use Rattle.psg_class.specs.Terminals.{Token, word, numeral, quoted, solo, symbols, placeholder, dots, Terminal, fixed, a_name, a_number, a_text, a_hole, a_more, stray, open_bracket, close_bracket, terminal_of, word_terminal, fixed_if, are_word, is_word, is_run}
+use Rattle.psg_class.specs.Terminals.{Token, word, numeral, quoted, solo, symbols, placeholder, dots, fixed, a_name, a_number, a_text, a_hole, a_more, stray, open_bracket, close_bracket, terminal_of, word_terminal, fixed_if, are_word, is_word, is_run}
 use Rattle.psg_class.specs.Yields.{TreeYields, of_hole, of_operator, in_brackets}
 use Rattle.psg_ranges.specs.Brackets.{is_open, is_close, is_bracketed}
-use Rattle.psg_ranges.specs.Forests.{Core, hole_core, operator_core, Forest, no_nodes, node, of_tree}
+use Rattle.psg_ranges.specs.Forests.{Core, hole_core, operator_core, Forest, node, of_tree}
 use Rattle.psg_ranges.specs.Walking.{core_leading, core_names, core_below, leading, IsBracketed}
 use Rattle.psg_ranges.proofs.Rows.{AllOpen, AllClose}
 

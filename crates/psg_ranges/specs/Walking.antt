@@ -1,26 +1,23 @@
 -- What the walk over a tree and its tokens does, whatever derivation of the tree from these tokens there is.
-use Rattle.std.specs.Prelude.{ℕ, suc, ◌≡◌, ◌≤◌, ◌<◌, ◌+◌, ◌-◌, ◌⊎◌, cond, Bool, true, false, List, [], ◌∷◌, ◌++◌}
+use Rattle.std.specs.Prelude.{ℕ, suc, ◌≡◌, ◌≤◌, ◌+◌, ◌⊎◌, cond, Bool, true, false, List, [], ◌∷◌, ◌++◌}
 use Rattle.std.specs.Prelude.{length, Option, Some, None, slice_get}
 use Rattle.psg_grammar.specs.declared.types.Kind.{Kind}
-use Rattle.psg_grammar.specs.declared.types.Kind.TheVariants as kinds
 use Rattle.psg_grammar.specs.declared.types.Item.{Item}
 use Rattle.psg_grammar.specs.declared.types.Item.TheVariants as items
 use Rattle.psg_grammar.specs.declared.types.Operator.{Operator}
-use Rattle.psg_grammar.specs.declared.types.Phylum.{Phylum}
 use Rattle.psg_grammar.specs.declared.types.Definition.{Definition}
-use Rattle.psg_grammar.specs.Fragments.{Fragment, hole, operator}
-use Rattle.psg_grammar.specs.Declaring.{HasHoles}
+use Rattle.psg_grammar.specs.Fragments.{Fragment, operator}
 use Rattle.psg_tree.specs.declared.tree.Part.{Part}
 use Rattle.psg_tree.specs.declared.tree.Part.TheVariants.{Sub, Name, Number, Text}
 use Rattle.psg_tree.specs.Shapes.{list_of}
 use Rattle.psg_class.specs.Places.{solid}
-use Rattle.psg_class.specs.Terminals.{Token, placeholder}
+use Rattle.psg_class.specs.Terminals.{Token}
 use Rattle.psg_class.specs.Yields.{TreeYields, of_hole, of_operator, in_brackets, PartsYield, no_items, of_word}
 use Rattle.psg_class.specs.Yields.{of_refers, of_declares, of_number, of_text, of_slot, of_list_slot, ListYields}
 use Rattle.psg_class.specs.Yields.{no_elements, only_more, elements}
 use Rattle.psg_ranges.specs.declared.ranges.Range.{Range}
 use Rattle.psg_ranges.specs.declared.reading.Reader.{Reader}
-use Rattle.psg_ranges.specs.Brackets.{closes_first, is_bracketed, element_brackets}
+use Rattle.psg_ranges.specs.Brackets.{closes_first, is_bracketed}
 use Rattle.psg_ranges.specs.Forests.{Core, hole_core, operator_core, Forest, no_nodes, node, of_tree, of_parts}
 use Rattle.psg_ranges.specs.Forests.{of_list, of_elements, names_of}
 use Rattle.psg_ranges.specs.Forests.{ranges_in}

@@ -1,4 +1,4 @@
-use Rattle.std.proofs.Common.{◌≡◌, ◌+◌, ◌-◌, drop, length}
+use Rattle.std.proofs.Common.{◌-◌}
 use Rattle.psg_class.specs.Texts.{tokens_of}
 use Rattle.psg_ranges.proofs.Rows.{Taking}
 use Rattle.psg_ranges.proofs.brackets.in_brackets.Given as goal
