@@ -1,0 +1,16 @@
+pub mod SpaceLaws
+pub mod Gathered
+pub mod FrontLaws
+pub mod NewNameLaws
+pub mod OpeningLaws
+pub mod FormedLaws
+pub mod Whole
+pub mod CountLaws
+pub mod NumberedLaws
+pub mod OfPlacesLaws
+pub mod ListingLaws
+pub mod PrintLaws
+pub mod ForAllNames
+pub mod BlameLaws
+pub mod AnswerLaws
+pub mod WorkLaws

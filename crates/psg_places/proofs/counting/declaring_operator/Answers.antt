@@ -1,0 +1,20 @@
+use Rattle.std.proofs.Common.{ap, sym, slice_get, ◌∙◌}
+use Rattle.psg_terms.proofs.Lists.{got_none, got_some}
+use Rattle.psg_places.specs.Places.{declares_by}
+use Rattle.psg_places.proofs.SpaceLaws.{operator_declares}
+use Rattle.psg_places.proofs.counting.declaring_operator.Goals as goal
+
+pub returns-in-Some : goal.returns-in-Some
+returns-in-Some c =
+    let k = c.args.keeping in
+    let at = ap (λ xs. slice_get xs c.args.op) (sym c.as_slice.ensures)
+    ∙ got_some c.as_slice.result.now c.args.op c.get.result c.in-Some.operator c.get.ensures.lookup c.in-Some.is in
+    c.has_spaces.ensures
+    ∙ operator_declares k.definition.now c.requires.known.sound k.spaces.now c.requires.known.spaces c.args.op
+    c.in-Some.operator.now at
+
+pub returns-in-None : goal.returns-in-None
+returns-in-None c =
+    let at = ap (λ xs. slice_get xs c.args.op) (sym c.as_slice.ensures)
+    ∙ got_none c.as_slice.result.now c.args.op c.get.result c.get.ensures.lookup c.in-None.is in
+    sym (ap (declares_by c.args.keeping.definition.now) at)

@@ -1,0 +1,10 @@
+use Rattle.psg_grammar.specs.Legal.{IsCompletable}
+use Rattle.psg_grammar.specs.Open.{IsOpen}
+use Rattle.psg_places.proofs.BlameLaws.{only}
+use Rattle.psg_places.proofs.laws.one_answer.Goals as goal
+
+pub returns-clause-open : goal.returns-clause-open
+returns-clause-open c = λ fresh f. only c.args.definition.now fresh f (IsOpen c.args.definition.now)
+
+pub returns-clause-completable : goal.returns-clause-completable
+returns-clause-completable c = λ fresh f. only c.args.definition.now fresh f (IsCompletable c.args.definition.now)

@@ -1,0 +1,100 @@
+-- What the search for blamed places answers.
+use Rattle.std.specs.Prelude.{ℕ, zero, suc, ◌+◌, ◌≡◌, ◌<◌, ◌^◌, ◌⊎◌, ◌↔◌, Bool, true, List, [], ◌∷◌, ◌++◌, length, Option, Some, None}
+use Rattle.psg_terms.specs.Names.{Name}
+use Rattle.psg_grammar.specs.declared.types.Definition.{Definition}
+use Rattle.psg_grammar.specs.Fragments.{Fragment}
+use Rattle.psg_grammar.specs.Legal.{IsCompletable}
+use Rattle.psg_grammar.specs.Open.{IsOpen}
+use Rattle.psg_grammar.specs.Printable.{IsPrintable}
+use Rattle.psg_completions.specs.Conditions.{HasTrueRows}
+use Rattle.psg_cache.specs.Notes.{IsNoteFault}
+use Rattle.psg_cache.specs.declared.note.NoteFault.{NoteFault}
+use Rattle.psg_cache.specs.declared.note.NoteFault.TheVariants as faults
+use Rattle.psg_grammar.specs.declared.types.Kind.{Kind}
+use Rattle.psg_grammar.specs.WellFormed.{WellFormed}
+use Rattle.psg_places.specs.declared.blaming.Blamed.{Blamed}
+use Rattle.psg_places.specs.declared.fault.BlameFault.{BlameFault}
+use Rattle.psg_places.specs.declared.fault.BlameFault.TheVariants.{Limit, Memory}
+use Rattle.psg_places.specs.declared.trial.Trial.{Trial}
+use Rattle.psg_places.specs.Blame.{AreAllAnswers, AreAnswers, blamed_in, kept_in, most_blamed, none_kept}
+use Rattle.psg_places.specs.NewNames.{AreNew, new_name}
+use Rattle.psg_places.specs.Opened.{opened}
+use Rattle.psg_places.specs.Places.{place_count}
+
+-- The answer: which places are kept, for all choices of new names, and the tree of the kept places for one choice. That
+-- tree can take the place of the whole tree, its names can be written if those of the whole tree can, and if nothing is
+-- blamed it is the whole tree.
+pub record IsFound (IsGood : Fragment → Type 0) (def : Definition) (f : Fragment) (b : Blamed) : Type 0 where
+  pub answers : (fresh : ℕ → Name) → AreNew def f fresh → AreAllAnswers IsGood def fresh f b.kept
+  pub fresh : ℕ → Name
+  pub new : AreNew def f fresh
+  pub repaired : b.repaired ≡ opened def (kept_in b.kept) fresh f
+  pub good : IsGood b.repaired
+  pub formed : (kind : Kind) → WellFormed def f kind → WellFormed def b.repaired kind
+  pub printable : IsPrintable f → IsPrintable b.repaired
+  pub whole : blamed_in b.kept ≡ 0 → b.repaired ≡ f
+
+-- There is no answer exactly if the tree is not good even with nothing kept, for all choices of new names, of which
+-- there are some.
+abbrev pub IsBlame : (Fragment → Type 0) → Definition → Fragment → Option Blamed → Type 0
+IsBlame IsGood def f None = ((fresh : ℕ → Name) × AreNew def f fresh)
+    × ((fresh : ℕ → Name) → AreNew def f fresh → IsGood (opened def none_kept fresh f) → ⊥)
+IsBlame IsGood def f (Some b) = IsFound IsGood def f b
+
+-- ---- faults
+
+-- the answers so far, and the next place as if it were kept
+pub record IsNext (def : Definition) (fresh : ℕ → Name) (f : Fragment) (kept : List Bool) : Type 0 where
+  pub before : List Bool
+  pub next : kept ≡ before ++ true ∷ []
+  pub answers : AreAnswers (IsOpen def) def fresh f before
+  pub left : length before < place_count def f
+  pub few : blamed_in before < most_blamed
+
+-- a fault of a tree, and not of memory
+abbrev pub IsOfTree : NoteFault → Type 0
+IsOfTree faults.Memory = ⊥
+IsOfTree _ = Unit {0}
+
+-- A tree that is tried keeps nothing, or the kept places so far and the next one. The fault is what is said of it.
+pub record IsLimit (def : Definition) (f : Fragment) (kept : List Bool) (own : NoteFault) : Type 0 where
+  pub fresh : ℕ → Name
+  pub new : AreNew def f fresh
+  pub tried : (kept ≡ []) ⊎ IsNext def fresh f kept
+  pub fault : IsNoteFault def (opened def (kept_in kept) fresh f) own
+  pub real : IsOfTree own
+
+abbrev pub IsBlameFault : Definition → Fragment → BlameFault → Type 0
+IsBlameFault def f (Limit kept fault) = IsLimit def f kept.items fault
+IsBlameFault def f Memory = Unit {0}
+
+-- ---- one trial
+
+-- the evaluations of so many trials, each of so many
+abbrev pub trials_work : ℕ → ℕ → ℕ
+trials_work zero work = 0
+trials_work (suc n) work = work + trials_work n work
+
+-- the tree of the kept places, and whether it is good
+pub record IsTrial (def : Definition) (front : Name) (kept : List Bool) (f : Fragment) (t : Trial) : Type 0 where
+  pub tree : t.tree ≡ opened def (kept_in kept) (new_name front) f
+  pub count : t.places ≡ place_count def f
+  pub small : place_count def f < 2 ^ 64
+  pub opens : (t.good ≡ true) ↔ IsOpen def (opened def (kept_in kept) (new_name front) f)
+  pub completable : HasTrueRows def
+      → (t.good ≡ true) ↔ IsCompletable def (opened def (kept_in kept) (new_name front) f)
+
+-- the fault of the tree of the kept places
+abbrev pub IsTrialFault : Definition → Name → List Bool → Fragment → BlameFault → Type 0
+IsTrialFault def front keep f (Limit kept fault) = (kept.items ≡ keep) × ((place_count def f < 2 ^ 64)
+    × (IsNoteFault def (opened def (kept_in keep) (new_name front) f) fault × IsOfTree fault))
+IsTrialFault def front keep f Memory = Unit {0}
+
+-- the fault of the tree with these places kept, or that memory ran out
+abbrev pub IsLimitOf : List Bool → NoteFault → BlameFault → Type 0
+IsLimitOf keep fault (Limit kept own) = (kept.items ≡ keep) × ((own ≡ fault) × IsOfTree own)
+IsLimitOf keep fault Memory = Unit {0}
+
+-- the tree of the kept places and of the next one
+abbrev pub next_tree : Definition → Name → List Bool → Fragment → Fragment
+next_tree def front kept f = opened def (kept_in (kept ++ true ∷ [])) (new_name front) f

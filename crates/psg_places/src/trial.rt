@@ -1,0 +1,117 @@
+//! One trial: the tree of some places is evaluated.
+ghost use Rattle.std.specs.Prelude.{◌≡◌, ◌≤◌, ◌+◌, IfErr, IfOk};
+ghost use Rattle.psg_cache.specs.Notes.{AreTables, IsFormed};
+ghost use Rattle.psg_grammar.specs.Sound.{IsSound};
+ghost use Rattle.psg_grammar.specs.Work.{work_of};
+ghost use Rattle.psg_places.specs.Answers.{IsLimitOf, IsTrial, IsTrialFault};
+ghost use Rattle.psg_places.specs.Blame.{kept_in};
+ghost use Rattle.psg_places.specs.NewNames.{IsFront, new_name};
+ghost use Rattle.psg_places.specs.Opened.{opened};
+ghost use Rattle.psg_places.specs.Places.{place_count};
+
+use crate::fault::BlameFault;
+use crate::numbers::held;
+use crate::opening::{Keeping, Opened, open};
+use psg_cache::{NoteFault, build};
+use psg_eval::Tables;
+use psg_grammar::Definition;
+use psg_terms::{Steps, Txt};
+use psg_tree::Tree;
+use std::alloc::{AllocError, Global};
+use std::sync::ledger::Ledger;
+
+/// A tree in which places are opened.
+#[derive(Drop)]
+pub(crate) struct Trial {
+    /// The tree of the kept places.
+    pub(crate) tree: Tree,
+    /// How many places the whole tree has.
+    pub(crate) places: usize,
+    /// Whether the tree has a completion.
+    pub(crate) good: bool,
+}
+
+/// Opens the places of the tree that are not kept.
+pub(crate) fn kept_tree(
+    alloc: Global,
+    definition: &Definition,
+    tables: &Tables,
+    front: &Txt,
+    keep: &[bool],
+    tree: &Tree,
+) -> Result<Opened, AllocError>
+    requires sound { IsSound definition.now }
+    requires tables { AreTables definition.now tables.now }
+    ensures tree { IfOk result (λ o. o.tree ≡ opened definition.now (kept_in keep.now) (new_name front.now) tree.now) }
+    ensures count { IfOk result (λ o. o.others ≡ place_count definition.now tree.now) }
+{
+    let spaces = tables.spaces();
+    let keeping = Keeping {
+        definition,
+        spaces,
+        keep,
+        front,
+    };
+    let opened = open(alloc, keeping, tree)?;
+    Ok(opened)
+}
+
+/// Returns the fault of a tree with these places kept.
+fn limit(keep: Vec<bool>, fault: NoteFault) -> BlameFault
+    ensures { IsLimitOf keep.items fault result }
+{
+    match fault {
+        NoteFault::Deep => BlameFault::Limit {
+            kept: keep,
+            fault: NoteFault::Deep,
+        },
+        NoteFault::Big => BlameFault::Limit {
+            kept: keep,
+            fault: NoteFault::Big,
+        },
+        NoteFault::Wide { path, step } => BlameFault::Limit {
+            kept: keep,
+            fault: NoteFault::Wide { path, step },
+        },
+        NoteFault::Heavy => BlameFault::Limit {
+            kept: keep,
+            fault: NoteFault::Heavy,
+        },
+        NoteFault::Memory => BlameFault::Memory,
+    }
+}
+
+/// Opens the places of the tree that are not kept, and evaluates what is left.
+pub(crate) fn tried<L: Ledger>(
+    alloc: Global,
+    definition: &Definition,
+    tables: &Tables,
+    front: &Txt,
+    keep: Vec<bool>,
+    tree: &Tree,
+    steps: &mut Steps<L>,
+) -> Result<Trial, BlameFault>
+    requires sound { IsSound definition.now }
+    requires tables { AreTables definition.now tables.now }
+    requires formed { IsFormed definition.now tree.now }
+    requires front { IsFront definition.now tree.now front.now }
+    ensures trial { IfOk result (IsTrial definition.now front.now keep.items tree.now) }
+    ensures fault { IfErr result (IsTrialFault definition.now front.now keep.items tree.now) }
+    // whatever it answers
+    ensures ticks { steps.new ≤ steps.old + work_of tree.now }
+{
+    let kept = keep.as_slice();
+    let opened = kept_tree(alloc, definition, tables, front, kept, tree)?;
+    let places = held(opened.others);
+    match build(alloc, definition, tables, &opened.tree, steps) {
+        Ok(note) => {
+            let good = note.is_good();
+            Ok(Trial {
+                tree: opened.tree,
+                places,
+                good,
+            })
+        }
+        Err(fault) => Err(limit(keep, fault)),
+    }
+}
