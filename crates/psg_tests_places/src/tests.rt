@@ -1,0 +1,3 @@
+//! Programs of MINI with mistakes.
+mod languages;
+mod programs;
