@@ -98,5 +98,5 @@ fn all_typed(alloc: Global) -> Result<bool, AllocError> {
 
 #[test]
 fn lines_of_keys(rt: HostRuntime) {
-    assert!(rt; all_typed(rt.alloc()).unwrap());
+    assert!(rt; all_typed(rt.alloc()).expect(&rt, "memory"));
 }

@@ -143,5 +143,5 @@ fn all_read(alloc: Global) -> Result<bool, AllocError> {
 
 #[test]
 fn keys_of_pieces(rt: HostRuntime) {
-    assert!(rt; all_read(rt.alloc()).unwrap());
+    assert!(rt; all_read(rt.alloc()).expect(&rt, "memory"));
 }
