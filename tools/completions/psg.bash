@@ -6,11 +6,11 @@ _psg() {
         first=${COMP_WORDS[2]} place=$((place - 1))
     fi
     if [ "$place" -eq 1 ]; then
-        mapfile -t COMPREPLY < <(compgen -W "check edit live windows gen layout codes commands help --help --version --build --explain" -- "$word")
+        mapfile -t COMPREPLY < <(compgen -W "check edit live windows gen layout self codes commands help --help --version --build --explain" -- "$word")
         return
     fi
     case $first in
-    check | edit | live | windows | layout)
+    check | edit | live | windows | layout | self)
         # the first file is a definition
         if [ "$place" -eq 2 ]; then
             mapfile -t COMPREPLY < <(compgen -f -X '!*.psg' -- "$word"; compgen -d -- "$word")
@@ -18,6 +18,7 @@ _psg() {
             mapfile -t COMPREPLY < <(compgen -f -- "$word")
         fi
         ;;
+    self) mapfile -t COMPREPLY < <(compgen -f -- "$word") ;;
     codes) mapfile -t COMPREPLY < <(compgen -W "1 2 3 4 5 6 7 8 9 10 11 12 13 14 15 16 17 18 19 20 21 22 23 NoFirst Form NoBracket MixedLevel SameFirst SameLed LedFollows ListEnd Scope Declaring NoRow Uncovered Cases NotSmaller OpenHole Large Weak NotIt NoDeclare NotClear 0 70" -- "$word") ;;
     esac
 }

@@ -6,9 +6,10 @@ use Rattle.psg_terms.specs.Names.{Name}
 use Rattle.psg_grammar.specs.declared.types.Definition.{Definition}
 use Rattle.psg_specimen.specs.Refusal.{IsAccepted as IsAcceptable}
 use Rattle.psg_specimen.proofs.Stages.{not_both}
-use Rattle.psg_langs.specs.declared.named.TheConstants.{MINI}
+use Rattle.psg_langs.specs.declared.named.TheConstants.{MINI, SELF}
 use Rattle.psg_world.specs.Files.{Held, bytes_of}
 use Rattle.psg_world.specs.Sinks.{HasRisen}
+use Rattle.psg_self.specs.SelfLanguage.{IsSelf}
 use Rattle.psg_session.specs.Replies.{feed}
 use Rattle.psg_run.specs.declared.status.Status.{Status}
 use Rattle.psg_run.specs.declared.status.Status.TheVariants as ends_with
@@ -19,10 +20,11 @@ use Rattle.psg_run.specs.Arranging.{no_room_for_layout, no_room_to_arrange, tell
 use Rattle.psg_run.specs.Chain.{IsPlayed, Point, Runs, breaks, closes, goes, is_played, no_room_to_begin, puts_front}
 use Rattle.psg_run.specs.Chain.{rests}
 use Rattle.psg_run.specs.Editing.{BreaksOff, Edits, Editor, IsReplied, JustEnds, new_editor}
+use Rattle.psg_run.specs.Exporting.{Exports, GoesOnAsSelf, is_itself, is_other, no_room_to_export, tells_export}
 use Rattle.psg_run.specs.Generated.{Generates, no_room_to_tell, tells}
 use Rattle.psg_run.specs.Live.{EndsInput, IsRepliedLive, Talks, is_at_end, is_unread_line, no_room_for_line}
 use Rattle.psg_run.specs.Outputs.{EndsWell, HasDefinition, HasLayout, IsShort, WasRead}
-use Rattle.psg_run.specs.Promise.{check, edit, live, windows, gen, layout}
+use Rattle.psg_run.specs.Promise.{check, edit, live, windows, gen, layout, itself}
 use Rattle.psg_run.specs.Reading.{Defines, IsAccepted, IsRefusalLine, Reads, is_accepted, is_long, is_read, is_refused}
 use Rattle.psg_run.specs.Reading.{is_unread, most_definition_bytes, most_script_bytes, no_definition}
 use Rattle.psg_run.specs.Reading.{no_room_for_definition, no_room_for_file, not_accepted}
@@ -122,6 +124,19 @@ module _ (old new : World) (sink : HasRisen old.count new.count → ⊥) where
       front_well sink front
   arranges_well def by columns lines status (is_played first left texts last split runs (breaks t broken wrote)) = inr refl
   arranges_well def by columns lines status (no_room_to_begin same) = inr refl
+
+  exports_well : (def : Definition) (file : Name) (lines : List (List ℕ)) (status : Status)
+      → Exports def file lines old new status → IsWell status
+  exports_well def file lines status
+      (is_played first left texts last split runs (closes t text ended (tells_export told after export) puts)) =
+      puts_well (inl refl) sink puts
+  exports_well def file lines status
+      (is_played first left texts last split runs (closes t text ended no_room_to_export puts)) =
+      puts_well (inr refl) sink puts
+  exports_well def file lines status (is_played first left texts last split runs (puts_front t text played front)) =
+      front_well sink front
+  exports_well def file lines status (is_played first left texts last split runs (breaks t broken wrote)) = inr refl
+  exports_well def file lines status (no_room_to_begin same) = inr refl
 
   -- no line that was given is missed
   none_missed : (def : Definition) {s t : Point Editor} {pieces : List (List ℕ)} {texts : List ℕ}
@@ -234,6 +249,20 @@ module _ (old new : World) (sink : HasRisen old.count new.count → ⊥) where
       absurd (not_refused (bytes_of has.held d) line has.def has.accepted refusal)
   arranged_well d s l columns has short lay was_script was_lay status (no_room_for_definition same) = inr refl
 
+  -- the language is that of definitions, the script's file is read, and the lines are played
+  self_well : (s file : Name) (def : Definition) → IsAccepted SELF.now def → IsSelf def → IsShort old s most_script_bytes
+      → WasRead old new s → (status : Status)
+      → Defines SELF.now
+      (λ other. GoesOnAsSelf other (Reads s most_script_bytes (λ bytes. Exports other file (script_lines bytes)))) old new
+      status → IsWell status
+  self_well s file def accepted is short was status (is_accepted other read (is_itself own on)) =
+      script_well old new sink s (Exports other file) status short was (exports_well old new sink other file) on
+  self_well s file def accepted is short was status (is_accepted other read (is_other never puts)) =
+      absurd (never (subst IsSelf (sym (one_accepted SELF.now def other accepted read)) is))
+  self_well s file def accepted is short was status (is_refused line refusal puts) =
+      absurd (not_refused SELF.now line def accepted refusal)
+  self_well s file def accepted is short was status (no_room_for_definition same) = inr refl
+
 pub has_ended_well : EndsWell
 has_ended_well (check d) old new status run (has, was, sink) =
     file_well old new sink d (λ def. Puts (feed (codes "accepted")) ends_with.Done) status has was
@@ -255,3 +284,5 @@ has_ended_well (layout d s l columns) old new status run ((has, was, short, was_
     (λ bytes. Defines bytes (λ def. Reads s most_script_bytes (λ text. ArrangesBy def l columns (script_lines text))))
     status has.known has.short was
     (λ ended on. arranged_well old new sink d s l columns has short lay was_script was_lay ended on) run
+has_ended_well (itself s file) old new status run ((def, accepted, is), short, was, sink) =
+    self_well old new sink s file def accepted is short was status run

@@ -9,6 +9,9 @@ pub mod PlainLines
 pub mod Telling
 pub mod Summing
 pub mod Laying
+pub mod Exported
+pub mod Reports
+pub mod WholeDefinitions
 pub mod Feeds
 pub mod WordForms
 pub mod LineCommands

@@ -9,7 +9,7 @@ use Rattle.psg_run.specs.declared.status.Status.{Status}
 use Rattle.psg_run.specs.declared.status.Status.TheVariants as ends_with
 use Rattle.psg_run.specs.Worlds.{World, texts_of}
 use Rattle.psg_run.specs.Arranging.{most_columns}
-use Rattle.psg_run.specs.Promise.{Form, check, edit, live, windows, gen, layout, HasNoForm, IsForm, IsRunOf, IsRun}
+use Rattle.psg_run.specs.Promise.{Form, check, edit, live, windows, gen, layout, itself, HasNoForm, IsForm, IsRunOf, IsRun}
 
 pub two_words : (words : List (String Global)) (a b : String Global) → 2 ≤ length words → length words < 3 → a ≡ get_or words 0 a → b ≡ get_or words 1 b
     → texts_of words ≡ string_bytes a ∷ string_bytes b ∷ []
@@ -62,6 +62,7 @@ two_other a b no_check no_live no_gen (live d) e = no_live cc
 two_other a b no_check no_live no_gen (windows d s) e = cc
 two_other a b no_check no_live no_gen (gen n) (e, low, high) = no_gen cc
 two_other a b no_check no_live no_gen (layout d s l n) (e, low, high) = cc
+two_other a b no_check no_live no_gen (itself s f) e = cc
 
 -- `gen` and a word that is no number of those for which a script is made
 pub no_number : (a b : Name) → a ≡ codes "gen" → ((n : ℕ) → IsNumeralUpTo 1000 n b → ⊥) → HasNoForm (a ∷ b ∷ [])
@@ -71,18 +72,21 @@ no_number a b is never (windows d s) e = cc
 no_number a b is never (live d) e = not_live_gen (sym is ∙ first_is a (codes "live") (b ∷ []) (d ∷ []) e)
 no_number a b is never (gen n) (e, low, high) = never n ((omega (arith, high), second_is a (codes "gen") b (decimal n) e), low, high)
 no_number a b is never (layout d s l n) (e, low, high) = cc
+no_number a b is never (itself s f) e = cc
 
 -- `gen` and a number
 pub number_wanted : (a b : Name) (n : ℕ) → a ≡ codes "gen" → IsNumeralUpTo 1000 n b → IsForm (a ∷ b ∷ []) (gen n)
 number_wanted a b n is (numeral, low, high) = (ap₂ (λ x y. x ∷ y ∷ []) is numeral.1, low, high)
 
-pub three_other : (a b c : Name) → (a ≡ codes "edit" → ⊥) → (a ≡ codes "windows" → ⊥) → HasNoForm (a ∷ b ∷ c ∷ [])
-three_other a b c no_edit no_windows (check d) e = cc
-three_other a b c no_edit no_windows (edit d s) e = no_edit cc
-three_other a b c no_edit no_windows (live d) e = cc
-three_other a b c no_edit no_windows (windows d s) e = no_windows cc
-three_other a b c no_edit no_windows (gen n) (e, low, high) = cc
-three_other a b c no_edit no_windows (layout d s l n) (e, low, high) = cc
+pub three_other : (a b c : Name) → (a ≡ codes "edit" → ⊥) → (a ≡ codes "windows" → ⊥) → (a ≡ codes "self" → ⊥)
+    → HasNoForm (a ∷ b ∷ c ∷ [])
+three_other a b c no_edit no_windows no_self (check d) e = cc
+three_other a b c no_edit no_windows no_self (edit d s) e = no_edit cc
+three_other a b c no_edit no_windows no_self (live d) e = cc
+three_other a b c no_edit no_windows no_self (windows d s) e = no_windows cc
+three_other a b c no_edit no_windows no_self (gen n) (e, low, high) = cc
+three_other a b c no_edit no_windows no_self (layout d s l n) (e, low, high) = cc
+three_other a b c no_edit no_windows no_self (itself s f) e = no_self cc
 
 -- five words of which the first is another one, or the last no number of columns
 pub five_other : (a b c d e : Name) → (a ≡ codes "layout" → (n : ℕ) → IsNumeralUpTo most_columns n e → ⊥)
@@ -96,6 +100,7 @@ five_other a b c d e never (layout x y z n) (p, low, high) =
     let first : a ≡ codes "layout" = cc in
     let last : e ≡ decimal n = cc in
     never first n ((omega (arith, high), last), low, high)
+five_other a b c d e never (itself x y) p = cc
 
 -- `layout` and a number of columns
 pub columns_wanted : (a b c d e : Name) (n : ℕ) → a ≡ codes "layout" → IsNumeralUpTo most_columns n e
@@ -111,12 +116,14 @@ other_count [] two three five (live d) e = cc
 other_count [] two three five (windows d s) e = cc
 other_count [] two three five (gen n) (e, low, high) = cc
 other_count [] two three five (layout d s l n) (e, low, high) = cc
+other_count [] two three five (itself s f) e = cc
 other_count (x ∷ []) two three five (check d) e = cc
 other_count (x ∷ []) two three five (edit d s) e = cc
 other_count (x ∷ []) two three five (live d) e = cc
 other_count (x ∷ []) two three five (windows d s) e = cc
 other_count (x ∷ []) two three five (gen n) (e, low, high) = cc
 other_count (x ∷ []) two three five (layout d s l n) (e, low, high) = cc
+other_count (x ∷ []) two three five (itself s f) e = cc
 other_count (x ∷ y ∷ []) two three five form e = absurd (two refl)
 other_count (x ∷ y ∷ z ∷ []) two three five form e = absurd (three refl)
 other_count (x ∷ y ∷ z ∷ w ∷ []) two three five (check d) e = cc
@@ -125,6 +132,7 @@ other_count (x ∷ y ∷ z ∷ w ∷ []) two three five (live d) e = cc
 other_count (x ∷ y ∷ z ∷ w ∷ []) two three five (windows d s) e = cc
 other_count (x ∷ y ∷ z ∷ w ∷ []) two three five (gen n) (e, low, high) = cc
 other_count (x ∷ y ∷ z ∷ w ∷ []) two three five (layout d s l n) (e, low, high) = cc
+other_count (x ∷ y ∷ z ∷ w ∷ []) two three five (itself s f) e = cc
 other_count (x ∷ y ∷ z ∷ w ∷ v ∷ []) two three five form e = absurd (five refl)
 other_count (x ∷ y ∷ z ∷ w ∷ v ∷ u ∷ more) two three five (check d) e = cc
 other_count (x ∷ y ∷ z ∷ w ∷ v ∷ u ∷ more) two three five (edit d s) e = cc
@@ -132,6 +140,7 @@ other_count (x ∷ y ∷ z ∷ w ∷ v ∷ u ∷ more) two three five (live d) e
 other_count (x ∷ y ∷ z ∷ w ∷ v ∷ u ∷ more) two three five (windows d s) e = cc
 other_count (x ∷ y ∷ z ∷ w ∷ v ∷ u ∷ more) two three five (gen n) (e, low, high) = cc
 other_count (x ∷ y ∷ z ∷ w ∷ v ∷ u ∷ more) two three five (layout d s l n) (e, low, high) = cc
+other_count (x ∷ y ∷ z ∷ w ∷ v ∷ u ∷ more) two three five (itself s f) e = cc
 
 -- ---- runs
 
@@ -146,6 +155,18 @@ not_windows e = true≢false (ap (λ w. bytes_eq w (codes "edit")) e)
 
 three_is : (d s e t : Name) → codes "edit" ∷ d ∷ s ∷ [] ≡ codes "windows" ∷ e ∷ t ∷ [] → codes "edit" ≡ codes "windows"
 three_is d s e t whole = cc
+
+not_self : codes "edit" ≡ codes "self" → ⊥
+not_self e = true≢false (ap (λ w. bytes_eq w (codes "edit")) e)
+
+edit_is : (d s x y : Name) → codes "edit" ∷ d ∷ s ∷ [] ≡ codes "self" ∷ x ∷ y ∷ [] → codes "edit" ≡ codes "self"
+edit_is d s x y whole = cc
+
+not_self_windows : codes "windows" ≡ codes "self" → ⊥
+not_self_windows e = true≢false (ap (λ w. bytes_eq w (codes "windows")) e)
+
+windows_is : (d s x y : Name) → codes "windows" ∷ d ∷ s ∷ [] ≡ codes "self" ∷ x ∷ y ∷ [] → codes "windows" ≡ codes "self"
+windows_is d s x y whole = cc
 
 one_form : (words : List Name) (a b : Form) → IsForm words a → IsForm words b → a ≡ b
 one_form words (check d) (check e) p q = let whole : codes "check" ∷ d ∷ [] ≡ codes "check" ∷ e ∷ [] = sym p ∙ q in cc
@@ -192,6 +213,19 @@ one_form words (layout d s l n) (layout d' s' l' m) (p, low, high) (q, low', hig
     let last : decimal n ≡ decimal m = cc in
     let same : n ≡ m = decimal_injective n m (omega (arith, high)) (omega (arith, high')) last in
     cc
+one_form words (check d) (itself s f) p q = let whole : codes "check" ∷ d ∷ [] ≡ codes "self" ∷ s ∷ f ∷ [] = sym p ∙ q in cc
+one_form words (edit d t) (itself s f) p q = absurd (not_self (edit_is d t s f (sym p ∙ q)))
+one_form words (windows d t) (itself s f) p q = absurd (not_self_windows (windows_is d t s f (sym p ∙ q)))
+one_form words (live d) (itself s f) p q = let whole : codes "live" ∷ d ∷ [] ≡ codes "self" ∷ s ∷ f ∷ [] = sym p ∙ q in cc
+one_form words (gen n) (itself s f) (p, low, high) q = let whole : codes "gen" ∷ decimal n ∷ [] ≡ codes "self" ∷ s ∷ f ∷ [] = sym p ∙ q in cc
+one_form words (layout d s l n) (itself x f) (p, low, high) q = let whole : codes "layout" ∷ d ∷ s ∷ l ∷ decimal n ∷ [] ≡ codes "self" ∷ x ∷ f ∷ [] = sym p ∙ q in cc
+one_form words (itself s f) (check d) p q = let whole : codes "self" ∷ s ∷ f ∷ [] ≡ codes "check" ∷ d ∷ [] = sym p ∙ q in cc
+one_form words (itself s f) (edit d t) p q = absurd (not_self (edit_is d t s f (sym q ∙ p)))
+one_form words (itself s f) (windows d t) p q = absurd (not_self_windows (windows_is d t s f (sym q ∙ p)))
+one_form words (itself s f) (live d) p q = let whole : codes "self" ∷ s ∷ f ∷ [] ≡ codes "live" ∷ d ∷ [] = sym p ∙ q in cc
+one_form words (itself s f) (gen n) p (q, low, high) = let whole : codes "self" ∷ s ∷ f ∷ [] ≡ codes "gen" ∷ decimal n ∷ [] = sym p ∙ q in cc
+one_form words (itself x f) (layout d s l n) p (q, low, high) = let whole : codes "self" ∷ x ∷ f ∷ [] ≡ codes "layout" ∷ d ∷ s ∷ l ∷ decimal n ∷ [] = sym p ∙ q in cc
+one_form words (itself s f) (itself x y) p q = let whole : codes "self" ∷ s ∷ f ∷ [] ≡ codes "self" ∷ x ∷ y ∷ [] = sym p ∙ q in cc
 one_form words (live d) (live e) p q = let whole : codes "live" ∷ d ∷ [] ≡ codes "live" ∷ e ∷ [] = sym p ∙ q in cc
 
 module _ (words : List Name) (old new : World) (status : Status) where
@@ -221,6 +255,10 @@ module _ (words : List Name) (old new : World) (status : Status) where
   pub of_layout : (definition script rules : Name) (columns : ℕ) → IsForm words (layout definition script rules columns)
       → IsRunOf (layout definition script rules columns) old new status → IsRun words old new status
   of_layout definition script rules columns is ran = of_form (layout definition script rules columns) is ran
+
+  pub of_itself : (script file : Name) → words ≡ codes "self" ∷ script ∷ file ∷ [] → IsRunOf (itself script file) old new status
+      → IsRun words old new status
+  of_itself script file is ran = of_form (itself script file) is ran
 
   -- words of a form are not of none
   pub has_form : (form : Form) → IsForm words form → HasNoForm words → ⊥

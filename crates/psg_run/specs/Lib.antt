@@ -7,6 +7,7 @@ pub mod Windowed
 pub mod Generated
 pub mod Reading
 pub mod Arranging
+pub mod Exporting
 pub mod Promise
 pub mod Codes
 pub mod Endings

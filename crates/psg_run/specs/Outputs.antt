@@ -5,9 +5,10 @@ use Rattle.std.specs.Prelude.{Option, Some, None, codes}
 use Rattle.std.specs.Io.KnownBytes.{append_known}
 use Rattle.psg_terms.specs.Names.{Name}
 use Rattle.psg_grammar.specs.declared.types.Definition.{Definition}
-use Rattle.psg_langs.specs.declared.named.TheConstants.{MINI}
+use Rattle.psg_langs.specs.declared.named.TheConstants.{MINI, SELF}
 use Rattle.psg_layout.specs.declared.layout.Layout.{Layout}
 use Rattle.psg_layout.specs.Layouts.{LayoutRefusal}
+use Rattle.psg_self.specs.SelfLanguage.{IsSelf}
 use Rattle.psg_unparse.specs.Spaced.{Put, SpacedReadsBack, text_in}
 use Rattle.psg_world.specs.Files.{Held, bytes_of}
 use Rattle.psg_world.specs.Sinks.{HasRisen}
@@ -23,7 +24,7 @@ use Rattle.psg_run.specs.Arranging.{Arranges, most_layout_bytes}
 use Rattle.psg_run.specs.Chain.{Point, Runs, first_point, rests, goes}
 use Rattle.psg_run.specs.Editing.{Editor, IsReplied, new_editor}
 use Rattle.psg_run.specs.Live.{IsRepliedLive, heard, with_input}
-use Rattle.psg_run.specs.Promise.{Form, IsRunOf, check, edit, live, windows, gen, layout}
+use Rattle.psg_run.specs.Promise.{Form, IsRunOf, check, edit, live, windows, gen, layout, itself}
 use Rattle.psg_run.specs.Reading.{IsAccepted, most_definition_bytes, most_script_bytes}
 use Rattle.psg_run.specs.Worlds.{IsFrontOf, World, with_failed_read}
 
@@ -175,6 +176,9 @@ GoesWell (gen number) old new =
     ((def : Definition) × IsAccepted MINI.now def) × (HasRisen old.count new.count → ⊥)
 GoesWell (layout d s rules columns) old new =
     ScriptGoesWell old new d s × HasLayout old d rules × WasRead old new rules × (HasRisen old.count new.count → ⊥)
+GoesWell (itself s file) old new =
+    ((def : Definition) × IsAccepted SELF.now def × IsSelf def) × IsShort old s most_script_bytes × WasRead old new s
+    × (HasRisen old.count new.count → ⊥)
 
 -- Where nothing goes wrong outside, the run ends well, or memory ran out.
 abbrev pub EndsWell : Type 0

@@ -2,8 +2,8 @@
 use Rattle.std.specs.Prelude.{List}
 use Rattle.psg_terms.specs.Names.{Name}
 use Rattle.psg_run.specs.declared.words.Form.{Form as Found}
-use Rattle.psg_run.specs.declared.words.Form.TheVariants.{Check, Edit, Live, Windows, Gen, Layout}
-use Rattle.psg_run.specs.Promise.{Form, check, edit, live, windows, gen, layout, IsForm}
+use Rattle.psg_run.specs.declared.words.Form.TheVariants.{Check, Edit, Live, Windows, Gen, Layout, Itself}
+use Rattle.psg_run.specs.Promise.{Form, check, edit, live, windows, gen, layout, itself, IsForm}
 
 -- the form that the program's form is
 abbrev pub form_told : Found → Form
@@ -13,6 +13,7 @@ form_told (Live definition) = live definition.now
 form_told (Windows definition script) = windows definition.now script.now
 form_told (Gen number) = gen number
 form_told (Layout definition script rules columns) = layout definition.now script.now rules.now columns
+form_told (Itself script file) = itself script.now file.now
 
 -- what was found is the form that the words have
 abbrev pub IsWanted : List Name → Found → Type 0

@@ -5,10 +5,12 @@
 //! psg_session's specs and knows nothing but trees. For `live DEF` it writes them to the lines of the input. For
 //! `windows DEF SCRIPT` each line of the script is for one of eight windows, which have a cursor each. For `gen N` it
 //! says how large a program is that it makes. For `layout DEF SCRIPT LAY COLS` it writes the program of the script,
-//! arranged by the layout for so many columns.
+//! arranged by the layout for so many columns. For `self SCRIPT OUT` it writes the definition that the script builds to a
+//! file.
 #![tactic(auto)]
 
 mod arranging;
+mod exporting;
 mod generating;
 pub mod laws;
 pub mod limits;

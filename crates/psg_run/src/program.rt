@@ -11,6 +11,7 @@ ghost use Rattle.psg_run.specs.Windowed.{PlaysWindows};
 ghost use Rattle.psg_run.specs.Worlds.{Incoming, coming, seen, texts_of};
 
 use crate::arranging::arrange_by;
+use crate::exporting::export_self;
 use crate::generating::generate;
 use crate::limits::MOST_SCRIPT_BYTES;
 use crate::live::talk;
@@ -224,8 +225,10 @@ fn layout<F: Files, O: Sink, L: Ledger>(
 /// for eight windows, each with a cursor of its own: a line is a digit from 0 to 7, a space and a command. `gen N` plays
 /// a script that is made for the number N, from 1 to 1,000, on the language MINI, and writes five lines of the program
 /// then. `layout DEF SCRIPT LAY COLS` plays a script as `edit` does, but in silence. Then it writes the opened program,
-/// arranged by the file LAY for COLS columns, from 1 to 400, or `none` if nothing is opened. `steps` counts evaluations
-/// of nodes and list suffixes: a command evaluates what is new and what is above it.
+/// arranged by the file LAY for COLS columns, from 1 to 400, or `none` if nothing is opened. `self SCRIPT OUT` plays a
+/// script in silence on the language of definitions, writes the definition that is opened then to the file OUT, and says
+/// whether it is accepted. `steps` counts evaluations of nodes and list suffixes: a command evaluates what is new and
+/// what is above it.
 pub fn run<F: Files, I: Input, O: Sink, L: Ledger>(
     alloc: Global,
     words: &[String],
@@ -263,6 +266,7 @@ pub fn run<F: Files, I: Input, O: Sink, L: Ledger>(
                 columns,
             },
         ) => { layout(alloc, definition, script, rules, columns, files, out, steps) }
+        Some(Form::Itself { script, file }) => export_self(alloc, script, file, files, out, steps),
         None => Status::Words,
     }
 }

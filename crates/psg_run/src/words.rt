@@ -40,6 +40,11 @@ pub enum Form<'a> {
         rules: &'a str,
         columns: u32,
     },
+    /// `self SCRIPT OUT`
+    Itself {
+        script: &'a str,
+        file: &'a str,
+    },
 }
 
 /// What `gen` asks for with this word.
@@ -70,14 +75,25 @@ fn of_two<'a>(form: &str, word: &'a str) -> Option<Form<'a>>
 }
 
 /// What three words ask for.
-fn of_three<'a>(form: &str, definition: &'a str, script: &'a str) -> Option<Form<'a>>
-    ensures { MatchOption result (HasNoForm (form.now ∷ definition.now ∷ script.now ∷ []))
-        (IsWanted (form.now ∷ definition.now ∷ script.now ∷ [])) }
+fn of_three<'a>(form: &str, first: &'a str, second: &'a str) -> Option<Form<'a>>
+    ensures { MatchOption result (HasNoForm (form.now ∷ first.now ∷ second.now ∷ []))
+        (IsWanted (form.now ∷ first.now ∷ second.now ∷ [])) }
 {
     if form == "edit" {
-        Some(Form::Edit { definition, script })
+        Some(Form::Edit {
+            definition: first,
+            script: second,
+        })
     } else if form == "windows" {
-        Some(Form::Windows { definition, script })
+        Some(Form::Windows {
+            definition: first,
+            script: second,
+        })
+    } else if form == "self" {
+        Some(Form::Itself {
+            script: first,
+            file: second,
+        })
     } else {
         None
     }

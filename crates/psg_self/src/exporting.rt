@@ -5,7 +5,8 @@ ghost use Rattle.std.specs.List.{AllByRecursion};
 ghost use Rattle.psg_lexis.specs.Tokens.{IsFixedWord};
 ghost use Rattle.psg_grammar.specs.Sound.{IsSound};
 ghost use Rattle.psg_grammar.specs.WellFormed.{WellFormed, IsComplete, fixed_words};
-ghost use Rattle.psg_defread.specs.Reading.{IsReadAs};
+ghost use Rattle.psg_grammar.specs.declared.types.Definition.{Definition as Plain};
+ghost use Rattle.psg_defread.specs.Reading.{IsReadAs, Spells};
 ghost use Rattle.psg_defread.specs.Refusals.{Refusal};
 ghost use Rattle.psg_self.specs.SelfLanguage.{IsSelf};
 ghost use Rattle.psg_self.specs.Export.{exported, IsExportFault};
@@ -59,6 +60,8 @@ pub fn check_export(
     requires short { IsComplete tree.now → length (exported tree.now) < 2 ^ 32 }
     ensures checked { IfOk result (λ inner.
         MatchResult inner (IsReadAs (exported tree.now)) (Refusal (exported tree.now))) }
+    ensures only { IfOk result (λ inner. IfOk inner (λ d. (other : Plain) → Spells (exported tree.now) other
+        → other ≡ d)) }
     ensures says { IfOk result (λ inner. IfOk inner (Says tree.now)) }
     ensures sound { IfOk result (λ inner. IfOk inner IsSound) }
     ensures words { IfOk result (λ inner. IfOk inner (λ d. AllByRecursion IsFixedWord (fixed_words d))) }

@@ -1,8 +1,8 @@
 use Rattle.std.proofs.Common.{◌≡◌, [], ◌∷◌}
 use Rattle.std.specs.Prelude.{codes}
-use Rattle.psg_run.specs.Promise.{check, edit, gen, layout, live, windows}
+use Rattle.psg_run.specs.Promise.{check, edit, gen, itself, layout, live, windows}
 use Rattle.psg_run.specs.Worlds.{coming, seen, texts_of}
-use Rattle.psg_run.proofs.WordForms.{has_form, of_check, of_edit, of_gen, of_layout, of_live, of_windows}
+use Rattle.psg_run.proofs.WordForms.{has_form, of_check, of_edit, of_gen, of_itself, of_layout, of_live, of_windows}
 use Rattle.psg_run.proofs.program.run.Goals as goal
 
 pub returns-in-Some-Check : goal.returns-in-Some-Check
@@ -69,4 +69,14 @@ returns-in-Some-Layout g c =
           (seen (g.F.Files.holds c.layout.new.files) (g.F.Files.faults c.layout.new.files) (coming (g.I.Input.lines c.args.input.now) (g.I.Input.given c.args.input.now) (g.I.Input.missed c.args.input.now)) c.layout.new.steps (g.O.Sink.written c.layout.new.out) (g.O.Sink.faults c.layout.new.out))
           c.layout.result c.in-Some-Layout.definition.now c.in-Some-Layout.script.now c.in-Some-Layout.rules.now c.in-Some-Layout.columns wanted (c.layout.ensures (coming (g.I.Input.lines c.args.input.now) (g.I.Input.given c.args.input.now) (g.I.Input.missed c.args.input.now)));
       untouched = λ none. absurd (has_form (texts_of c.args.words.now) (seen (g.F.Files.holds c.args.files.now) (g.F.Files.faults c.args.files.now) (coming (g.I.Input.lines c.args.input.now) (g.I.Input.given c.args.input.now) (g.I.Input.missed c.args.input.now)) c.args.steps.now (g.O.Sink.written c.args.out.now) (g.O.Sink.faults c.args.out.now)) (seen (g.F.Files.holds c.args.files.now) (g.F.Files.faults c.args.files.now) (coming (g.I.Input.lines c.args.input.now) (g.I.Input.given c.args.input.now) (g.I.Input.missed c.args.input.now)) c.args.steps.now (g.O.Sink.written c.args.out.now) (g.O.Sink.faults c.args.out.now)) c.layout.result (layout c.in-Some-Layout.definition.now c.in-Some-Layout.script.now c.in-Some-Layout.rules.now c.in-Some-Layout.columns) wanted none);
+    }
+
+pub returns-in-Some-Itself : goal.returns-in-Some-Itself
+returns-in-Some-Itself g c =
+    let wanted : texts_of c.args.words.now ≡ codes "self" ∷ c.in-Some-Itself.script.now ∷ c.in-Some-Itself.file.now ∷ [] = rw c.in-Some-Itself.field-0-is at c.in-Some-Itself.ensures in
+    record {
+      run = of_itself (texts_of c.args.words.now) (seen (g.F.Files.holds c.args.files.now) (g.F.Files.faults c.args.files.now) (coming (g.I.Input.lines c.args.input.now) (g.I.Input.given c.args.input.now) (g.I.Input.missed c.args.input.now)) c.args.steps.now (g.O.Sink.written c.args.out.now) (g.O.Sink.faults c.args.out.now))
+          (seen (g.F.Files.holds c.export_self.new.files) (g.F.Files.faults c.export_self.new.files) (coming (g.I.Input.lines c.args.input.now) (g.I.Input.given c.args.input.now) (g.I.Input.missed c.args.input.now)) c.export_self.new.steps (g.O.Sink.written c.export_self.new.out) (g.O.Sink.faults c.export_self.new.out))
+          c.export_self.result c.in-Some-Itself.script.now c.in-Some-Itself.file.now wanted (c.export_self.ensures (coming (g.I.Input.lines c.args.input.now) (g.I.Input.given c.args.input.now) (g.I.Input.missed c.args.input.now)));
+      untouched = λ none. absurd (has_form (texts_of c.args.words.now) (seen (g.F.Files.holds c.args.files.now) (g.F.Files.faults c.args.files.now) (coming (g.I.Input.lines c.args.input.now) (g.I.Input.given c.args.input.now) (g.I.Input.missed c.args.input.now)) c.args.steps.now (g.O.Sink.written c.args.out.now) (g.O.Sink.faults c.args.out.now)) (seen (g.F.Files.holds c.args.files.now) (g.F.Files.faults c.args.files.now) (coming (g.I.Input.lines c.args.input.now) (g.I.Input.given c.args.input.now) (g.I.Input.missed c.args.input.now)) c.args.steps.now (g.O.Sink.written c.args.out.now) (g.O.Sink.faults c.args.out.now)) c.export_self.result (itself c.in-Some-Itself.script.now c.in-Some-Itself.file.now) wanted none);
     }

@@ -1,4 +1,6 @@
-use Rattle.std.proofs.Common.{◌<◌, ◌^◌, length, subst, sym, ◌∙◌}
+use Rattle.std.proofs.Common.{◌≡◌, ◌<◌, ◌^◌, length, subst, sym, ◌∙◌}
+use Rattle.psg_grammar.specs.declared.types.Definition.{Definition}
+use Rattle.psg_defread.specs.Reading.{Spells}
 use Rattle.psg_self.specs.Export.{exported}
 use Rattle.psg_self.proofs.Checked.{read-as, refused}
 use Rattle.psg_self.proofs.exporting.check_export.Goals as goal
@@ -22,3 +24,8 @@ returns-in-Ok-clause-says c =
     c.only_says.ensures c.args.language.now c.args.tree.now c.requires.itself c.requires.formed c.in_ok-bytes.ensures.complete c.in-Ok.definition
     (read-as c.as_slice.result.now (exported c.args.tree.now) c.in-Ok.definition (c.as_slice.ensures.value ∙ c.in_ok-bytes.ensures.bytes)
     c.in-Ok.ensures.ok c.in-Ok.ensures.faultless)
+
+pub returns-in-Ok-clause-only : goal.returns-in-Ok-clause-only
+returns-in-Ok-clause-only c =
+    subst (λ bytes. (other : Definition) → Spells bytes other → other ≡ c.in-Ok.definition)
+    (c.as_slice.ensures.value ∙ c.in_ok-bytes.ensures.bytes) c.in-Ok.ensures.only
