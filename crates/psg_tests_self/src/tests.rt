@@ -52,7 +52,14 @@ fn counted<L: Ledger>(
     };
     let mut steps = Steps::<L>::of(ledger);
     let definition = language.definition();
-    parse_with(alloc, definition, language.table(), goal, tokens, &mut steps)
+    parse_with(
+        alloc,
+        definition,
+        language.table(),
+        goal,
+        tokens,
+        &mut steps,
+    )
 }
 
 /// The tree of the first list of the language that the text spells.
@@ -123,7 +130,10 @@ const ROWS: &[(&str, &str)] = &[
         "psg 1\nsort T = a b(T)\nphylum P : T bracketed\nop x : P infixl 4 = P \"+\" P\nrow a : ?q b(?r)\n\
         row b(?q) : ?q a\nop n : P = \"n\"\nrow ?z\nhole P ?z by n\nread",
     ),
-    ("op x : P plain = \"\\\"\" rows", "psg 1\nop x : P = \"\\\"\"\nline 2 code 8"),
+    (
+        "op x : P plain = \"\\\"\" rows",
+        "psg 1\nop x : P = \"\\\"\"\nline 2 code 8",
+    ),
     (
         "sort T = a() ; phylum P : T ; op x : P plain = \"\\n\\\\\" rows row a() :",
         "psg 1\nsort T = a\nphylum P : T\nop x : P = \"\\n\\\\\"\nrow a\nline 4 code 8",
@@ -146,7 +156,10 @@ const ROWS: &[(&str, &str)] = &[
         "psg 1\nop x : P infix 340282366920938463463374607431768211455 = \"x\"\nline 2 code 2",
     ),
     ("sort t = a()", "psg 1\nsort t = a\nline 2 code 2"),
-    ("sort T\u{e9} = a()", "psg 1\nsort T\u{e9} = a\nline 2 code 2"),
+    (
+        "sort T\u{e9} = a()",
+        "psg 1\nsort T\u{e9} = a\nline 2 code 2",
+    ),
     (
         "sort T = a() ; phylum P : T ; op x : P plain = refers rows row a() :",
         "psg 1\nsort T = a\nphylum P : T\nop x : P = refers\nrow a\nline 4 code 9",
@@ -197,10 +210,16 @@ fn exported_texts(rt: HostRuntime) -> Result<(), Fail> {
 
 /// Changes of the language of definitions: the text, and what is in its place.
 const CHANGES: &[(&str, &str)] = &[
-    ("op lpre : Level = \"prefix\" number", "op lpre : Level = \"prefix\" text"),
+    (
+        "op lpre : Level = \"prefix\" number",
+        "op lpre : Level = \"prefix\" text",
+    ),
     ("list Rows : Unit of Row", "list Rows : Unit of Item"),
     ("op iin : Item", "op iinner : Item"),
-    ("op ispace : Item = \"space\"\nrow ok\n", "op ispace : Item = \"space\"\nrow ok\nop iwide : Item = \"wide\"\nrow ok\n"),
+    (
+        "op ispace : Item = \"space\"\nrow ok\n",
+        "op ispace : Item = \"space\"\nrow ok\nop iwide : Item = \"wide\"\nrow ok\n",
+    ),
 ];
 
 #[test]
