@@ -61,6 +61,20 @@ fn counted<L: Ledger>(
     parse(alloc, definition, goal, tokens, &mut steps)
 }
 
+/// The tree of the tokens, or why there is none.
+fn parsed(
+    alloc: Global,
+    definition: &Definition,
+    goal: Goal,
+    tokens: &[Spanned],
+) -> Result<Tree, ParseFault>
+    requires sound { IsSound definition.now }
+    requires class { IsClass definition.now }
+    requires around { goal.around ≤ MOST_BRACKETS }
+{
+    counted::<Brand>(alloc, definition, goal, tokens, Blank::new(1))
+}
+
 /// The tree of the tokens.
 fn tree(
     alloc: Global,
@@ -76,7 +90,7 @@ fn tree(
         least: 0,
         around: 0,
     };
-    match counted::<Brand>(alloc, definition, goal, tokens, Blank::new(1)) {
+    match parsed(alloc, definition, goal, tokens) {
         Ok(tree) => Ok(tree),
         Err(_) => Err(AllocError),
     }
