@@ -1,15 +1,19 @@
 //! Exported texts of worked programs, and what is read from them.
-ghost use Rattle.std.specs.Prelude.{◌≡◌, ◌<◌, IfOk};
+ghost use Rattle.std.specs.Prelude.{◌≡◌, ◌<◌, ◌≤◌, IfOk};
+ghost use Rattle.psg_class.specs.Class.{IsClass};
 ghost use Rattle.psg_grammar.specs.declared.types.Kind.TheVariants as kinds;
+ghost use Rattle.psg_grammar.specs.Sound.{IsSound};
 ghost use Rattle.psg_grammar.specs.WellFormed.{WellFormed};
+ghost use Rattle.psg_grammar.specs.declared.limits.TheConstants.{MOST_BRACKETS};
 ghost use Rattle.psg_self.specs.SelfLanguage.{IsSelf};
 
+use psg_class::class_check;
 use psg_deflines::fault_text;
 use psg_defread::read_definition;
-use psg_grammar::Kind;
+use psg_grammar::{Definition, Kind};
 use psg_langs::{MINI, SELF};
 use psg_lexis::{Spanned, lex};
-use psg_parse::{Goal, ParseFault, parse_with};
+use psg_parse::{Goal, ParseFault, parse};
 use psg_self::{ExportFault, check_export, export, is_self};
 use psg_specimen::{Language, accept};
 use psg_terms::Steps;
@@ -36,30 +40,55 @@ fn language(alloc: Global, text: &str) -> Result<Language, AllocError> {
 
 fn counted<L: Ledger>(
     alloc: Global,
-    language: &Language,
+    definition: &Definition,
+    goal: Goal,
     tokens: &[Spanned],
     ledger: Blank,
 ) -> Result<Tree, ParseFault>
+    requires sound { IsSound definition.now }
+    requires class { IsClass definition.now }
+    requires around { goal.around ≤ MOST_BRACKETS }
     requires name { ledger.name ≡ L.name }
     requires parts { ledger.parts ≡ L.parts }
     requires some { 0 < L.parts }
-    ensures { IfOk result (λ tree. WellFormed language.now tree (kinds.List 0)) }
+    ensures { IfOk result (λ tree. WellFormed definition.now tree goal.kind) }
 {
+    let mut steps = Steps::<L>::of(ledger);
+    parse(alloc, definition, goal, tokens, &mut steps)
+}
+
+/// The tree of the tokens, or why there is none.
+fn parsed(
+    alloc: Global,
+    definition: &Definition,
+    goal: Goal,
+    tokens: &[Spanned],
+) -> Result<Tree, ParseFault>
+    requires sound { IsSound definition.now }
+    requires class { IsClass definition.now }
+    requires around { goal.around ≤ MOST_BRACKETS }
+    ensures { IfOk result (λ tree. WellFormed definition.now tree goal.kind) }
+{
+    counted::<Brand>(alloc, definition, goal, tokens, Blank::new(1))
+}
+
+/// The tree of the first list of the definition, which is of the grammar class, from the tokens.
+fn list_of(alloc: Global, definition: &Definition, tokens: &[Spanned]) -> Result<Tree, AllocError>
+    requires sound { IsSound definition.now }
+    ensures { IfOk result (λ tree. WellFormed definition.now tree (kinds.List 0)) }
+{
+    let Ok(()) = class_check(alloc, definition) else {
+        return Err(AllocError);
+    };
     let goal = Goal {
         kind: Kind::List(0),
         least: 0,
         around: 0,
     };
-    let mut steps = Steps::<L>::of(ledger);
-    let definition = language.definition();
-    parse_with(
-        alloc,
-        definition,
-        language.table(),
-        goal,
-        tokens,
-        &mut steps,
-    )
+    match parsed(alloc, definition, goal, tokens) {
+        Ok(tree) => Ok(tree),
+        Err(_) => Err(AllocError),
+    }
 }
 
 /// The tree of the first list of the language that the text spells.
@@ -69,10 +98,7 @@ fn tree(alloc: Global, language: &Language, text: &str) -> Result<Tree, AllocErr
     let Ok(tokens) = lex(alloc, language.lexis(), text) else {
         return Err(AllocError);
     };
-    match counted::<Brand>(alloc, language, tokens.as_slice(), Blank::new(1)) {
-        Ok(tree) => Ok(tree),
-        Err(_) => Err(AllocError),
-    }
+    list_of(alloc, language.definition(), tokens.as_slice())
 }
 
 /// What an export answers, as a text: the path of the first open place, or the exported text.
