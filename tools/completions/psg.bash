@@ -10,7 +10,7 @@ _psg() {
         return
     fi
     case $first in
-    check | edit | live | windows | layout | self | test)
+    check | edit | live | windows | layout | self | check | test)
         # the first file is a definition
         if [ "$place" -eq 2 ]; then
             mapfile -t COMPREPLY < <(compgen -f -X '!*.psg' -- "$word"; compgen -d -- "$word")
