@@ -34,6 +34,7 @@ pub record Goes (pieces : Pieces) (k l : Ink) : Type 0 where
   pub puts : l.page.puts ≡ k.page.puts ++ added
   pub count : length added ≡ tokens_in pieces
   pub first : l.first ≡ option_or k.first (first_begin k.page.puts added)
+  pub keeps : l.keeps ≡ k.keeps
 
 begins-then : (o : Option Begin) (ps a b : List Put) → option_or (option_or o (first_begin ps a)) (first_begin (ps ++ a) b) ≡ option_or o (first_begin ps (a ++ b))
 begins-then (Some x) ps a b = refl
@@ -45,7 +46,7 @@ none_last None = refl
 none_last (Some x) = refl
 
 pub goes_nothing : (k : Ink) → Goes [] k k
-goes_nothing k = record { before = sym (append-nil k.page.before); added = []; puts = sym (append-nil k.page.puts); count = refl; first = none_last k.first }
+goes_nothing k = record { before = sym (append-nil k.page.before); added = []; puts = sym (append-nil k.page.puts); count = refl; first = none_last k.first; keeps = refl }
 
 pub goes_then : (r s : Pieces) (k l m : Ink) → Goes r k l → Goes s l m → Goes (r ++ s) k m
 goes_then r s k l m a b = record {
@@ -56,13 +57,14 @@ goes_then r s k l m a b = record {
   first =
       b.first ∙ ap₂ (λ f ps. option_or f (first_begin ps b.added)) a.first a.puts
       ∙ begins-then k.first k.page.puts a.added b.added;
+  keeps = b.keeps ∙ a.keeps;
 }
 
 pub goes_token : (k : Ink) (t : List ℕ) → Goes (token t ∷ []) k (ink_token k t)
-goes_token k t = record { before = refl; added = record { gap = gap_on k.page t; text = t } ∷ []; puts = refl; count = refl; first = refl }
+goes_token k t = record { before = refl; added = record { gap = gap_on k.page t; text = t } ∷ []; puts = refl; count = refl; first = refl; keeps = refl }
 
 pub goes_mark : (k : Ink) (i : Item) → Goes (mark i ∷ []) k (ink_mark k i)
-goes_mark k i = record { before = refl; added = []; puts = sym (append-nil k.page.puts); count = refl; first = none_last k.first }
+goes_mark k i = record { before = refl; added = []; puts = sym (append-nil k.page.puts); count = refl; first = none_last k.first; keeps = refl }
 
 pub goes_row : (r : Pieces) (k : Ink) → Goes r k (ink_row k r)
 goes_row [] k = goes_nothing k
@@ -70,7 +72,7 @@ goes_row (token t ∷ r) k = goes_then (token t ∷ []) r k (ink_token k t) (ink
 goes_row (mark i ∷ r) k = goes_then (mark i ∷ []) r k (ink_mark k i) (ink_row (ink_mark k i) r) (goes_mark k i) (goes_row r (ink_mark k i))
 
 goes_ask : (mode : Mode) (k : Ink) → Goes [] k (ink_ask mode k)
-goes_ask mode k = record { before = sym (append-nil k.page.before); added = []; puts = sym (append-nil k.page.puts); count = refl; first = none_last k.first }
+goes_ask mode k = record { before = sym (append-nil k.page.before); added = []; puts = sym (append-nil k.page.puts); count = refl; first = none_last k.first; keeps = refl }
 
 goes_cond : (b : Bool) (r : Pieces) (k l m : Ink) → Goes r k l → Goes r k m → Goes r k (cond b l m)
 goes_cond true r k l m x y = x
@@ -107,8 +109,8 @@ module _ (layout : Layout) where
       (goes_cond f.some [] k (ink_at layout mode o n k) k (goes_at mode o n k) (goes_nothing k))
 
 -- a node is written, of which the first token is forgotten at first
-pub goes_closed : (r : Pieces) (k l : Ink) → Goes r (record { page = k.page; first = None }) l → Goes r k (record { page = l.page; first = option_or k.first l.first })
-goes_closed r k l a = record { before = a.before; added = a.added; puts = a.puts; count = a.count; first = ap (option_or k.first) a.first }
+pub goes_closed : (r : Pieces) (k l : Ink) → Goes r (record { page = k.page; first = None; keeps = k.keeps }) l → Goes r k (record { page = l.page; first = option_or k.first l.first; keeps = l.keeps })
+goes_closed r k l a = record { before = a.before; added = a.added; puts = a.puts; count = a.count; first = ap (option_or k.first) a.first; keeps = a.keeps }
 
 -- ---- pages
 

@@ -1,11 +1,16 @@
 -- Characters that are put at the end of a text.
-use Rattle.std.proofs.Common.{◌≡◌, inl, inr, ℕ, zero, suc, ◌+◌, ◌*◌, ◌==◌, ◌||◌, Bool, true, false, cond, List, [], ◌∷◌, ◌++◌, replicate, Option, Some, None, refl, sym, ap, subst, ◌∙◌, append-nil, append_assoc, arith}
-use Rattle.std.proofs.lemmas.Bool.{true≢false}
-use Rattle.std.proofs.lemmas.Bool.Decides.{eqb_tells}
+use Rattle.std.proofs.Common.{◌≡◌, inl, inr, ℕ, zero, suc, ◌+◌, ◌*◌, ◌<◌, ◌==◌, ◌||◌, Bool, true, false, cond, List, [], ◌∷◌, ◌++◌, length, replicate, Option, Some, None, refl, sym, ap, subst, ◌∙◌, append-nil, append_assoc, arith}
+use Rattle.std.proofs.lemmas.Bool.{true≢false, and_parts}
+use Rattle.std.proofs.lemmas.Bool.Decides.{eqb_tells, nat_tests}
 use Rattle.std.proofs.lemmas.List.{replicate-append-replicate}
 use Rattle.std.proofs.lemmas.List.Sums.{sum_by-append, sum_by-cons}
 use Rattle.std.proofs.lemmas.List.Folds.{sum_by-replicate, list_any-append}
 use Rattle.std.proofs.Math.Bool.{or-false, or-true}
+use Rattle.std.specs.Int.{is_in_range}
+use Rattle.std.specs.List.{list_all}
+use Rattle.std.specs.Str.{IsAscii, chars}
+use Rattle.std.proofs.lemmas.Str.{chars-IsAscii}
+use Rattle.std.proofs.lemmas.Str.Ascii.{IsAscii-nil, IsAscii-cons}
 use Rattle.unicode_width.specs.Width.{char_width}
 use Rattle.psg_layout.specs.declared.gap.Gap.{Gap}
 use Rattle.psg_layout.specs.declared.line_end.LineEnd.{LineEnd}
@@ -150,11 +155,78 @@ mark_put old n k c e feed space known cs h =
           ∙ front_known old old.front c cs refl h space x ∙ sym (known cs h) ∙ cc;
     }
 
+-- ---- printable ASCII without spaces
+
+abbrev are_narrow : List ℕ → Bool
+are_narrow t = list_all (is_in_range 33 126) t
+
+narrow_width : (c : ℕ) → is_in_range 33 126 c ≡ true → width_of c ≡ 1
+unfolding char_width
+narrow_width c h = grind (arith, nat_tests)
+
+narrow_other : (c d : ℕ) → is_in_range 33 126 c ≡ true → d < 33 → c ≡ d → ⊥
+narrow_other c d h l e = grind (arith, nat_tests)
+
+narrow_ascii : (t : List ℕ) → are_narrow t ≡ true → IsAscii t
+narrow_ascii [] h = IsAscii-nil
+narrow_ascii (c ∷ t) h =
+    let p = and_parts (is_in_range 33 126 c) (are_narrow t) h in
+    let own = p.0 in
+    let small : c < 128 = grind (arith, nat_tests) in
+    IsAscii-cons c t small (narrow_ascii t p.1)
+
+narrow_columns : (t : List ℕ) → are_narrow t ≡ true → columns t ≡ length t
+narrow_columns [] h = refl
+narrow_columns (c ∷ t) h =
+    let p = and_parts (is_in_range 33 126 c) (are_narrow t) h in
+    let a = sum_by-cons width_of c t in let b = narrow_width c p.0 in let d = narrow_columns t p.1 in
+    omega (arith, a, b, d)
+
+narrow_feed : (t : List ℕ) → are_narrow t ≡ true → has_feed t ≡ false
+narrow_feed [] h = refl
+narrow_feed (c ∷ t) h =
+    let p = and_parts (is_in_range 33 126 c) (are_narrow t) h in
+    ap (λ b. b || has_feed t) (other_is_false c 10 (narrow_other c 10 p.0 (omega arith))) ∙ narrow_feed t p.1
+
+text_put : (old : LineEnd) (n k c : ℕ) (r : List ℕ) → n ≡ old.columns + columns (c ∷ r) → has_feed (c ∷ r) ≡ false → (c ≡ 32 → ⊥)
+    → ((cs : List ℕ) → IsEnd old cs → k ≡ spaces_before (last_line cs))
+    → PutsChars (c ∷ r) old (record { feeds = old.feeds; columns = n; front = Some k })
+text_put old n k c r e single space known cs h =
+    let line : List ℕ = last_line cs in
+    let ends : last_line (cs ++ c ∷ r) ≡ line ++ c ∷ r = last_line-more cs (c ∷ r) single in
+    let none : feeds_in (c ∷ r) ≡ 0 = feeds-none (c ∷ r) single in
+    let more : feeds_in (cs ++ c ∷ r) ≡ feeds_in cs + feeds_in (c ∷ r) = feeds-append cs (c ∷ r) in
+    let wide : columns (line ++ c ∷ r) ≡ columns line + columns (c ∷ r) = sum_by-append width_of line (c ∷ r) in
+    let was : old.columns ≡ columns line = h.columns in
+    record {
+      feeds = h.feeds ∙ omega (arith, none, more);
+      columns = omega (arith, e, wide, was) ∙ ap columns (sym ends);
+      blank = λ f. absurd (cc);
+      known = λ m f x.
+          ap (λ l. spaces_before (l ++ x)) ends ∙ ap spaces_before (append_assoc line (c ∷ r) x)
+          ∙ front_known old old.front c cs refl h space (r ++ x) ∙ sym (known cs h) ∙ cc;
+    }
+
+pub narrow_put : (old : LineEnd) (n k : ℕ) (t : List ℕ) → are_narrow t ≡ true → (length t ≡ 0 → ⊥) → n ≡ old.columns + length t
+    → ((cs : List ℕ) → IsEnd old cs → k ≡ spaces_before (last_line cs))
+    → PutsChars (chars t) old (record { feeds = old.feeds; columns = n; front = Some k })
+narrow_put old n k [] h some e known = absurd (some refl)
+narrow_put old n k (c ∷ r) h some e known =
+    let p = and_parts (is_in_range 33 126 c) (are_narrow r) h in
+    let w = narrow_columns (c ∷ r) h in
+    let sum : n ≡ old.columns + columns (c ∷ r) = omega (arith, e, w) in
+    subst (λ x. PutsChars x old (record { feeds = old.feeds; columns = n; front = Some k })) (sym (chars-IsAscii (c ∷ r) (narrow_ascii (c ∷ r) h)))
+    (text_put old n k c r sum (narrow_feed (c ∷ r) h) (narrow_other c 32 p.0 (omega arith)) known)
+
 pub puts-then : (a b : List ℕ) (x y z : LineEnd) → PutsChars a x y → PutsChars b y z → PutsChars (a ++ b) x z
 puts-then a b x y z f g cs h = subst (IsEnd z) (append_assoc cs a b) (g (cs ++ a) (f cs h))
 
 pub puts-nothing : (x : LineEnd) → PutsChars [] x x
 puts-nothing x cs h = subst (IsEnd x) (sym (append-nil cs)) h
+
+pub no_chars : (t : List ℕ) (x : LineEnd) → length t ≡ 0 → PutsChars (chars t) x x
+no_chars [] x e = subst (λ cs. PutsChars cs x x) (sym (chars-IsAscii [] IsAscii-nil)) (puts-nothing x)
+no_chars (c ∷ t) x e = absurd (omega (arith, e))
 
 pub gap_feed : (g : Gap) (x y z : LineEnd) → g.feed ≡ true → PutsChars (10 ∷ []) x y → PutsChars (replicate g.spaces 32) y z → PutsChars (gap_bytes g) x z
 gap_feed g x y z e f s =

@@ -91,13 +91,13 @@ module _ (def : Definition) (layout : Layout) (cols : ℕ) (flats : List Flat) (
   leaf_same mode f t front o p k l e g =
       ap₂ (λ x y. words_after def layout cols flats counts mode f (leaf_put def layout cols flats counts mode x y t front)) e g
 
-  pub part_next : (mode : Mode) (w : Walk) (f : Fragment) (o : ℕ) (next : Next) (part : Part) → top_operator f ≡ Some o → next.item ≡ next_number def layout cols f → next.wanted ≡ wanted def f
+  pub part_next : (mode : Mode) (w : Walk) (f : Fragment) (o : ℕ) (next : Next) (part : Part) → top_operator f ≡ Some o → next.item ≡ next_number def layout cols f → ((t : Fragment) → part ≡ Sub t → next.wanted ≡ wanted def f)
       → next.child ≡ length (children_of f)
       → words_after def layout cols flats counts mode f (part_walk def layout cols flats counts mode o next part (below def layout cols flats counts (within mode) 0 w f))
       ≡ below def layout cols flats counts (within mode) 0 w (with_part f part)
   part_next mode w f o next (Sub t) e k l n =
       sub_same mode f t (below def layout cols flats counts (within mode) 0 w f) (Some o) (top_operator f) next.item (next_number def layout cols f)
-      (is_below def t next.wanted) (is_bracketed def f t) next.child (length (children_of f)) (sym e) k (ap (is_below def t) l) n
+      (is_below def t next.wanted) (is_bracketed def f t) next.child (length (children_of f)) (sym e) k (ap (is_below def t) (l t refl)) n
   part_next mode w f o next (Name x) e k l n = leaf_same mode f x (below def layout cols flats counts (within mode) 0 w f) (Some o) (top_operator f) next.item (next_number def layout cols f) (sym e) k
   part_next mode w f o next (Number x) e k l n = leaf_same mode f (decimal x) (below def layout cols flats counts (within mode) 0 w f) (Some o) (top_operator f) next.item (next_number def layout cols f) (sym e) k
   part_next mode w f o next (Text x) e k l n = leaf_same mode f (quoted x) (below def layout cols flats counts (within mode) 0 w f) (Some o) (top_operator f) next.item (next_number def layout cols f) (sym e) k
@@ -132,7 +132,7 @@ module _ (def : Definition) (cols : ℕ) (flats : List Flat) (counts : Bool) (ru
 
   pub parts-next : (mode : Mode) (o : ℕ) (parts : List Part) (items more left_ : List Item) (item number following child after : ℕ) (next : Next) (part : Part) (start b c d : Arranger)
       → AreParts mode o parts items more item child start b → items ≡ items_in (operator_at def o)
-      → next.item ≡ item → next.wanted ≡ level_wanted (operator_at def o) (length items - length more) → next.child ≡ child
+      → next.item ≡ item → ((t : Fragment) → part ≡ Sub t → next.wanted ≡ level_wanted (operator_at def o) (length items - length more)) → next.child ≡ child
       → Walks rules (λ layout w. part_walk def layout cols flats counts mode o next part w) b c
       → number ≡ item + 1 → InksBy rules (λ layout k. ink_words layout mode (Some o) number (behind_first more) k) c.sheet d.sheet
       → d.path.items ≡ c.path.items → d.nodes.items ≡ c.nodes.items
@@ -142,8 +142,8 @@ module _ (def : Definition) (cols : ℕ) (flats : List Flat) (counts : Bool) (ru
       let f : Fragment = with_parts (operator o) parts in
       let g : with_part (with_parts (operator o) parts) part ≡ with_parts (operator o) (parts ++ part ∷ []) = sym (with_parts-push (operator o) parts part) in
       let top : top_operator (with_parts (operator o) parts) ≡ Some o = top-parts (operator o) parts in
-      let v : next.wanted ≡ wanted def (with_parts (operator o) parts) =
-      nw ∙ wanted-of def (operator_at def o) more (length items - length more) (ap (λ z. length z - length more) e)
+      let v : (t : Fragment) → part ≡ Sub t → next.wanted ≡ wanted def (with_parts (operator o) parts) =
+      λ t is. nw t is ∙ wanted-of def (operator_at def o) more (length items - length more) (ap (λ z. length z - length more) e)
       ∙ ap₂ wanted_of (sym (operator-parts def o parts)) h.rest in
       record {
         walks = walks-as rules

@@ -80,21 +80,21 @@ module _ (def : Definition) (layout : Layout) (cols : ℕ) where
   -- ---- the first walk
 
   module _ (t : Fragment) (shaped : IsShaped t) where
-    top_met : (counts : Bool) → IsMet counts [] (opened new_walk) [] []
-    top_met true = record { before_is = refl; count = refl; path_is = refl }
-    top_met false = record { before_is = refl; count = refl; path_is = refl }
+    top_met : (counts keeps : Bool) → IsMet counts [] (opened (new_walk keeps)) [] []
+    top_met true keeps = record { before_is = refl; count = refl; path_is = refl }
+    top_met false keeps = record { before_is = refl; count = refl; path_is = refl }
 
     abbrev first : Walk
-    first = below def layout cols [] true (comes true 0) 0 (opened new_walk) t
+    first = below def layout cols [] true (comes true 0) 0 (opened (new_walk false)) t
 
     abbrev pub counting : Walk
-    counting = node_walk def layout cols [] true true new_walk t
+    counting = node_walk def layout cols [] true true (new_walk false) t
 
     first_puts : first.ink.page.puts ≡ plain_puts [] (row def t)
     first_puts =
         ap (λ (p : Page). p.puts)
-        (agree def layout cols [] true [] t (comes true 0) (met true) 0 (opened new_walk) top_spot shaped (top_met true)
-        (inr (decided_is def layout cols [] true [] true 0 (opened new_walk) top_spot t refl (inl refl))) refl (inl refl))
+        (agree def layout cols [] true [] t (comes true 0) (met true) 0 (opened (new_walk false)) top_spot shaped (top_met true false)
+        (inr (decided_is def layout cols [] true [] true 0 (opened (new_walk false)) top_spot t refl (inl refl))) refl (inl refl))
         ∙ (plain_page def layout cols t (met true) new_page (inr refl) (record { broken = refl; puts = refl })).puts
         ∙ ap (plain_puts []) (grows def layout cols t (met true) new_page).before
 
@@ -102,8 +102,8 @@ module _ (def : Definition) (layout : Layout) (cols : ℕ) where
     first_nodes =
         let final : List Put = plain_puts [] (row def t) in
         let e : final ≡ first.ink.page.puts ++ [] = sym (append-nil first.ink.page.puts ∙ first_puts) in
-        closed_nodes def true final [] new_walk first None top_spot t [] (top_met true) (goes def layout cols [] true t (comes true 0) 0 (opened new_walk)) e
-        (nodes_are def true final [] layout cols [] t (comes true 0) 0 (opened new_walk) top_spot [] (top_met true) e)
+        closed_nodes def true final [] (new_walk false) first None top_spot t [] (top_met true false) (goes def layout cols [] true t (comes true 0) 0 (opened (new_walk false))) e
+        (nodes_are def true final [] layout cols [] t (comes true 0) 0 (opened (new_walk false)) top_spot [] (top_met true false) e)
 
     abbrev pub kept : List Flat
     kept = flats_of counting.nodes
@@ -116,25 +116,29 @@ module _ (def : Definition) (layout : Layout) (cols : ℕ) where
     -- ---- the second walk
 
     abbrev second : Walk
-    second = below def layout cols kept false (comes false 0) 0 (opened new_walk) t
+    second = below def layout cols kept false (comes false 0) 0 (opened (new_walk true)) t
 
     abbrev pub arranging : Walk
-    arranging = node_walk def layout cols kept false false new_walk t
+    arranging = node_walk def layout cols kept false false (new_walk true) t
 
     second_puts : second.ink.page.puts ≡ arranged_puts def layout cols t
     second_puts =
         let h : AreAhead def layout cols kept 0 (record { spot = top_spot; node = t } ∷ placed_below def top_spot 0 t) =
         subst (AreAhead def layout cols kept 0) (from-below def false [] [] top_spot t) all_ahead in
         ap (λ (p : Page). p.puts)
-        (agree def layout cols kept false [] t (comes false 0) (met false) 0 (opened new_walk) top_spot shaped (top_met false)
-        (inr (decided_is def layout cols kept false [] false 0 (opened new_walk) top_spot t refl (inr h.0))) refl (inr h.1))
+        (agree def layout cols kept false [] t (comes false 0) (met false) 0 (opened (new_walk true)) top_spot shaped (top_met false true)
+        (inr (decided_is def layout cols kept false [] false 0 (opened (new_walk true)) top_spot t refl (inr h.0))) refl (inr h.1))
 
     second_nodes : arranging.nodes ≡ map (node_in def false (arranged_puts def layout cols t) []) (placed_in def t)
     second_nodes =
         let final : List Put = arranged_puts def layout cols t in
         let e : final ≡ second.ink.page.puts ++ [] = sym (append-nil second.ink.page.puts ∙ second_puts) in
-        closed_nodes def false final [] new_walk second None top_spot t [] (top_met false) (goes def layout cols kept false t (comes false 0) 0 (opened new_walk)) e
-        (nodes_are def false final [] layout cols kept t (comes false 0) 0 (opened new_walk) top_spot [] (top_met false) e)
+        closed_nodes def false final [] (new_walk true) second None top_spot t [] (top_met false true) (goes def layout cols kept false t (comes false 0) 0 (opened (new_walk true))) e
+        (nodes_are def false final [] layout cols kept t (comes false 0) 0 (opened (new_walk true)) top_spot [] (top_met false true) e)
+
+    -- the text is kept to the end
+    pub arranging_keeps : arranging.ink.keeps ≡ true
+    arranging_keeps = (goes def layout cols kept false t (comes false 0) 0 (opened (new_walk true))).keeps
 
     pub arranged_is : (text : List ℕ) (spans : List Span) → text ≡ text_in arranging.ink.page.puts → spans ≡ map (λ (n : Node). n.span) arranging.nodes
         → ◌≡◌ {A = Printed} (record { text = text; spans = spans }) (arranged_in def layout cols t)

@@ -1,6 +1,6 @@
 -- What the program keeps of what it writes: a gap by its form, the end of a text by numbers, the marks after a row, and
 -- a sheet, which is a page with the place of a first token. For each: what it stands for, and what its steps do.
-use Rattle.std.specs.Prelude.{ℕ, ◌≡◌, ◌*◌, ◌==◌, ◌&&◌, not, true, false, cond, List, [], ◌∷◌, ◌++◌, length, replicate}
+use Rattle.std.specs.Prelude.{ℕ, ◌≡◌, ◌*◌, ◌==◌, ◌&&◌, not, Bool, true, false, cond, List, [], ◌∷◌, ◌++◌, length, replicate}
 use Rattle.std.specs.Prelude.{count_by, Option, Some, None, string_bytes}
 use Rattle.std.specs.List.{list_any}
 use Rattle.std.specs.Option.{option_or}
@@ -68,13 +68,14 @@ PutsPiece p old new = (row : List Piece) → IsMarked old row → IsMarked new (
 
 -- ---- sheets
 
--- A page, and where the first token begins that was written since this was forgotten.
+-- A page, and where the first token begins that was written since this was forgotten. Its text is kept, or only counted.
 pub record Ink : Type 0 where
   pub page : Page
   pub first : Option Begin
+  pub keeps : Bool
 
-abbrev pub new_ink : Ink
-new_ink = record { page = new_page; first = None }
+abbrev pub new_ink : Bool → Ink
+new_ink keeps = record { page = new_page; first = None; keeps = keeps }
 
 -- where a token begins after these tokens and this gap
 abbrev pub begin_at : List Put → List ℕ → Begin
@@ -89,10 +90,11 @@ abbrev pub ink_token : Ink → List ℕ → Ink
 ink_token k t = record {
   page = with_token k.page t;
   first = option_or k.first (Some (begin_at k.page.puts (gap_on k.page t)));
+  keeps = k.keeps;
 }
 
 abbrev pub ink_mark : Ink → Item → Ink
-ink_mark k i = record { page = with_mark k.page i; first = k.first }
+ink_mark k i = record { page = with_mark k.page i; first = k.first; keeps = k.keeps }
 
 abbrev pub ink_row : Ink → List Piece → Ink
 ink_row k [] = k
@@ -101,18 +103,24 @@ ink_row k (mark i ∷ rest) = ink_row (ink_mark k i) rest
 
 -- a break is asked for, where the mode has one
 abbrev pub ink_ask : Option ℕ → Ink → Ink
-ink_ask mode k = record { page = with_break k.page (option_or mode k.page.broken); first = k.first }
+ink_ask mode k = record {
+  page = with_break k.page (option_or mode k.page.broken);
+  first = k.first;
+  keeps = k.keeps;
+}
 
 -- the first token, if none is known, begins where the text ends, after this gap
 abbrev pub begun : Gap → Sheet → Sheet
 begun gap s = record s {
   first = option_or s.first
-      (Some (record { byte = length (string_bytes s.out); gap = gap; feeds = s.line.feeds; columns = s.line.columns }));
+      (Some (record { byte = s.bytes; gap = gap; feeds = s.line.feeds; columns = s.line.columns }));
 }
 
 -- this is written on the sheet
 pub record IsInk (s : Sheet) (k : Ink) : Type 0 where
-  pub bytes : string_bytes s.out ≡ text_in k.page.puts
+  pub keeps : s.keeps ≡ k.keeps
+  pub bytes : k.keeps ≡ true → string_bytes s.out ≡ text_in k.page.puts
+  pub count : s.bytes ≡ length (text_in k.page.puts)
   pub line : IsEnd s.line (chars_in k.page.puts)
   pub marks : IsMarked s.marks k.page.before
   pub broken : s.broken ≡ k.page.broken

@@ -37,8 +37,8 @@ pub record Walk : Type 0 where
   pub path : List ℕ
   pub nodes : List Node
 
-abbrev pub new_walk : Walk
-new_walk = record { ink = new_ink; path = []; nodes = [] }
+abbrev pub new_walk : Bool → Walk
+new_walk keeps = record { ink = new_ink keeps; path = []; nodes = [] }
 
 -- what a node without tokens is in one line
 abbrev pub no_tokens : Flat
@@ -67,7 +67,7 @@ begun_node path puts = record {
 
 abbrev pub opened : Walk → Walk
 opened w = record {
-  ink = record { page = w.ink.page; first = None };
+  ink = record { page = w.ink.page; first = None; keeps = w.ink.keeps };
   path = w.path;
   nodes = w.nodes ++ begun_node w.path w.ink.page.puts ∷ [];
 }
@@ -87,7 +87,7 @@ ended (Some b) puts n = record {
 -- one is known.
 abbrev pub closed : ℕ → Option Begin → Walk → Walk
 closed place outer w = record {
-  ink = record { page = w.ink.page; first = option_or outer w.ink.first };
+  ink = record { page = w.ink.page; first = option_or outer w.ink.first; keeps = w.ink.keeps };
   path = w.path;
   nodes = slice_set w.nodes place
       (ended w.ink.first w.ink.page.puts (slice_index_or w.nodes place (begun_node w.path w.ink.page.puts)));

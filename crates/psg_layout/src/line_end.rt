@@ -1,5 +1,7 @@
 //! The end of a text: its line feeds, and its last line.
-ghost use Rattle.std.specs.Prelude.{◌≡◌, ◌∷◌, [], OnOk, ℕ, List, chars, replicate};
+ghost use Rattle.std.specs.Prelude.{◌≡◌, ◌∷◌, [], OnOk, ℕ, List, chars, replicate, true};
+ghost use Rattle.std.specs.Int.{is_in_range};
+ghost use Rattle.std.specs.List.{list_all};
 ghost use Rattle.psg_layout.specs.Pages.{last_line, spaces_before, width_of};
 ghost use Rattle.psg_layout.specs.Sheets.{gap_bytes, IsEnd, PutsChars};
 
@@ -26,6 +28,20 @@ fn width(c: char) -> usize
         Some(width) => width,
         None => 0,
     }
+}
+
+/// Says whether the byte is a printable ASCII character other than the space.
+fn is_narrow_byte(byte: u8) -> bool
+    ensures { result ≡ is_in_range 33 126 byte }
+{
+    byte >= 33 && byte <= 126
+}
+
+/// Says whether all bytes of the text are printable ASCII characters other than the space.
+fn is_narrow(text: &str) -> bool
+    ensures { result ≡ list_all (is_in_range 33 126) text.now }
+{
+    text.as_bytes().iter().all(|byte| is_narrow_byte(*byte))
 }
 
 impl LineEnd {
@@ -97,6 +113,32 @@ impl LineEnd {
 
     /// Puts a text at the end.
     pub(crate) fn put_str(&mut self, text: &str) -> Result<(), AllocError>
+        ensures { OnOk result (PutsChars (chars text.now) self.old self.new) }
+    {
+        if is_narrow(text) {
+            self.put_narrow(text)?;
+            return Ok(());
+        }
+        self.put_chars(text)?;
+        Ok(())
+    }
+
+    /// Puts a text at the end of which each byte is a printable ASCII character other than the space: each takes one
+    /// column.
+    fn put_narrow(&mut self, text: &str) -> Result<(), AllocError>
+        requires { list_all (is_in_range 33 126) text.now ≡ true }
+        ensures { OnOk result (PutsChars (chars text.now) self.old self.new) }
+    {
+        if text.is_empty() {
+            return Ok(());
+        }
+        self.front = Some(self.spaces());
+        self.columns = sum(self.columns, text.len())?;
+        Ok(())
+    }
+
+    /// Puts the characters of a text at the end.
+    fn put_chars(&mut self, text: &str) -> Result<(), AllocError>
         ensures { OnOk result (PutsChars (chars text.now) self.old self.new) }
     {
         for c in text.chars() {

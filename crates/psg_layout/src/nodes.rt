@@ -96,11 +96,11 @@ impl Node {
 }
 
 impl Arranger {
-    /// Makes an arranger that has written nothing, with room for so many nodes.
-    pub(crate) fn new(alloc: Global, count: usize) -> Result<Arranger, AllocError>
-        ensures { IfOk result (λ made. IsWalk made new_walk) }
+    /// Makes an arranger that has written nothing, with room for so many nodes. It keeps its text, or counts it.
+    pub(crate) fn new(alloc: Global, count: usize, keeps: bool) -> Result<Arranger, AllocError>
+        ensures { IfOk result (λ made. IsWalk made (new_walk keeps)) }
     {
-        let sheet = Sheet::new(alloc);
+        let sheet = Sheet::new(alloc, keeps);
         let path = Vec::new(alloc);
         let nodes = Vec::with_capacity(alloc, count)?;
         Ok(Arranger { sheet, path, nodes })
@@ -114,7 +114,7 @@ impl Arranger {
         ensures long { IfOk result (λ _. length self.old.nodes.items < length self.new.nodes.items) }
     {
         let path = Path::of(alloc, self.path.as_slice())?;
-        let start = self.sheet.out.len();
+        let start = self.sheet.bytes;
         let span = Span {
             path,
             start,
@@ -134,7 +134,7 @@ impl Arranger {
     {
         let first = self.sheet.first;
         let node = &mut self.nodes[place];
-        node.end(first, self.sheet.out.len(), self.sheet.line);
+        node.end(first, self.sheet.bytes, self.sheet.line);
         self.sheet.first = outer.or(first);
     }
 }

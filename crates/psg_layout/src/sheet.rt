@@ -1,13 +1,13 @@
 //! Writing tokens with plain gaps and with breaks.
-ghost use Rattle.std.specs.Prelude.{◌≡◌, ◌++◌, ◌∷◌, [], IfNone, IfOk, IfSome, OnOk, replicate, string_bytes};
-ghost use Rattle.std.specs.Prelude.{chars, decimal, slice_get};
+ghost use Rattle.std.specs.Prelude.{◌≡◌, ◌+◌, ◌++◌, ◌∷◌, [], IfNone, IfOk, IfSome, OnOk, true, replicate, length};
+ghost use Rattle.std.specs.Prelude.{chars, decimal, slice_get, string_bytes};
 ghost use Rattle.psg_tree.specs.AbstractText as text;
 ghost use Rattle.psg_unparse.specs.Layout.{last_char};
 ghost use Rattle.psg_layout.specs.Pages.{gap_by};
 ghost use Rattle.psg_layout.specs.Sheets.{begun, gap_bytes, ink_ask, ink_mark, ink_token, Inks, IsInk};
 ghost use Rattle.psg_layout.specs.Sheets.{new_ink, PutsChars};
 
-use crate::gap::Gap;
+use crate::gap::{Gap, sum};
 use crate::line_end::LineEnd;
 use crate::marks::Marks;
 use itoa::Buffer;
@@ -25,10 +25,15 @@ pub(crate) struct Begin {
     pub(crate) columns: usize,
 }
 
-/// What is written of a text.
+/// What is written of a text. The text is kept, or only counted.
 #[derive(Drop)]
 pub(crate) struct Sheet {
+    /// The text, if it is kept.
     pub(crate) out: String,
+    /// Whether the text is kept.
+    pub(crate) keeps: bool,
+    /// How many bytes the text has.
+    pub(crate) bytes: usize,
     pub(crate) line: LineEnd,
     pub(crate) marks: Marks,
     /// How many spaces are to be in front of the next token, on a line of its own.
@@ -38,12 +43,14 @@ pub(crate) struct Sheet {
 }
 
 impl Sheet {
-    /// Makes a sheet on which nothing is written.
-    pub(crate) fn new(alloc: Global) -> Sheet
-        ensures { IsInk result new_ink }
+    /// Makes a sheet on which nothing is written. It keeps its text, or counts it.
+    pub(crate) fn new(alloc: Global, keeps: bool) -> Sheet
+        ensures { IsInk result (new_ink keeps) }
     {
         Sheet {
             out: String::new(alloc),
+            keeps,
+            bytes: 0,
             line: LineEnd::new(),
             marks: Marks::new(),
             broken: None,
@@ -77,14 +84,56 @@ impl Sheet {
         Ok(line)
     }
 
+    /// Puts a gap at the end of the text, if that is kept.
+    fn keep_gap(&mut self, gap: Gap) -> Result<(), AllocError>
+        ensures bytes { OnOk result (self.old.keeps ≡ true
+            → string_bytes self.new.out ≡ string_bytes self.old.out ++ gap_bytes gap) }
+        ensures kept { self.new ≡ record self.old { out = self.new.out } }
+    {
+        if self.keeps {
+            push_gap(&mut self.out, gap)?;
+        }
+        Ok(())
+    }
+
+    /// Puts the text of a token at the end of the text, if that is kept.
+    fn keep_text(&mut self, text: &str) -> Result<(), AllocError>
+        ensures bytes { OnOk result (self.old.keeps ≡ true
+            → string_bytes self.new.out ≡ string_bytes self.old.out ++ text.now) }
+        ensures kept { self.new ≡ record self.old { out = self.new.out } }
+    {
+        if self.keeps {
+            self.out.push_str(text)?;
+        }
+        Ok(())
+    }
+
     /// Writes a gap.
     fn write_gap(&mut self, gap: Gap) -> Result<(), AllocError>
-        ensures bytes { OnOk result (string_bytes self.new.out ≡ string_bytes self.old.out ++ gap_bytes gap) }
+        ensures bytes { OnOk result (self.old.keeps ≡ true
+            → string_bytes self.new.out ≡ string_bytes self.old.out ++ gap_bytes gap) }
+        ensures count { OnOk result (self.new.bytes ≡ self.old.bytes + length (gap_bytes gap)) }
         ensures line { OnOk result (PutsChars (gap_bytes gap) self.old.line self.new.line) }
-        ensures kept { self.new ≡ record self.old { out = self.new.out; line = self.new.line } }
+        ensures kept { self.new ≡ record self.old { out = self.new.out; bytes = self.new.bytes; line = self.new.line } }
     {
-        push_gap(&mut self.out, gap)?;
+        self.keep_gap(gap)?;
+        let count = gap.bytes()?;
+        self.bytes = sum(self.bytes, count)?;
         self.line.put_gap(gap)?;
+        Ok(())
+    }
+
+    /// Writes the text of a token.
+    fn write_text(&mut self, text: &str) -> Result<(), AllocError>
+        ensures bytes { OnOk result (self.old.keeps ≡ true
+            → string_bytes self.new.out ≡ string_bytes self.old.out ++ text.now) }
+        ensures count { OnOk result (self.new.bytes ≡ self.old.bytes + length text.now) }
+        ensures line { OnOk result (PutsChars (chars text.now) self.old.line self.new.line) }
+        ensures kept { self.new ≡ record self.old { out = self.new.out; bytes = self.new.bytes; line = self.new.line } }
+    {
+        self.keep_text(text)?;
+        self.bytes = sum(self.bytes, text.len())?;
+        self.line.put_str(text)?;
         Ok(())
     }
 
@@ -92,12 +141,17 @@ impl Sheet {
     fn begin(&mut self, gap: Gap)
         ensures { self.new ≡ begun gap self.old }
     {
-        self.first = self.first.or(Some(Begin {
-            byte: self.out.len(),
-            gap,
-            feeds: self.line.feeds,
-            columns: self.line.columns,
-        }));
+        match self.first {
+            Some(_) => {}
+            None => {
+                self.first = Some(Begin {
+                    byte: self.bytes,
+                    gap,
+                    feeds: self.line.feeds,
+                    columns: self.line.columns,
+                });
+            }
+        }
     }
 
     /// Puts a token of this text.
@@ -108,8 +162,7 @@ impl Sheet {
         let gap = self.broken_gap(plain);
         self.write_gap(gap)?;
         self.begin(gap);
-        self.out.push_str(text)?;
-        self.line.put_str(text)?;
+        self.write_text(text)?;
         self.marks.end(last_char(text));
         self.broken = None;
         Ok(())

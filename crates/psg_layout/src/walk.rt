@@ -1,9 +1,11 @@
 //! The walk over a tree that arranges it.
-ghost use Rattle.std.specs.Prelude.{◌≡◌, ◌+◌, ◌&&◌, [], ◌∷◌, Some, IfOk, OnOk, List, ℕ};
-ghost use Rattle.psg_grammar.specs.Fragments.{operator as plain_operator};
+ghost use Rattle.std.specs.Prelude.{◌≡◌, ◌+◌, ◌&&◌, not, [], ◌∷◌, Some, IfOk, OnOk, List, ℕ};
+ghost use Rattle.psg_grammar.specs.Fragments.{Fragment, operator as plain_operator};
+ghost use Rattle.psg_grammar.specs.Lookups.{operator_at};
 ghost use Rattle.psg_grammar.specs.Sound.{IsSound};
 ghost use Rattle.psg_tree.specs.Shapes.{list_of, with_parts};
 ghost use Rattle.psg_tree.specs.declared.tree.Part.TheVariants.{Sub};
+ghost use Rattle.psg_unparse.specs.Walking as plain_walking;
 ghost use Rattle.psg_unparse.specs.Walking.{count_of};
 ghost use Rattle.psg_layout.specs.declared.layout.Layout.{Layout};
 ghost use Rattle.psg_layout.specs.Arranged as arranged;
@@ -35,7 +37,7 @@ pub(crate) struct Plan<'a> {
     pub(crate) rules: &'a Rules,
     pub(crate) plain: &'a [Node],
     pub(crate) cols: u32,
-    /// Whether the nodes are counted alone, without their paths.
+    /// Whether the text is only counted, and the nodes are listed without their paths.
     pub(crate) counts: bool,
 }
 
@@ -117,6 +119,21 @@ fn number_behind(number: u32, part: &Part) -> Result<u32, AllocError>
             Ok(next)
         }
         _ => Ok(number),
+    }
+}
+
+/// Returns the least level of a tree that is the part, which is read as the operator's item at the place. What is no
+/// tree has no level: 0.
+fn wanted_at(plan: &Plan<'_>, op: u32, place: usize, part: &Part) -> u8
+    requires { IsSound plan.now.definition.now }
+    ensures { (t : Fragment) → part.now ≡ Sub t
+        → result ≡ plain_walking.level_wanted (operator_at plan.now.definition.now op) place }
+{
+    match part {
+        Part::Sub(_) => level_wanted(plan.definition, op, place),
+        Part::Name(_) => 0,
+        Part::Number(_) => 0,
+        Part::Text(_) => 0,
     }
 }
 
@@ -234,7 +251,7 @@ fn write_operator(
     let mut item = words.1;
     let mut child: u32 = 0;
     for part in parts {
-        let wanted = level_wanted(plan.definition, mode.op, items.len() - rest.len());
+        let wanted = wanted_at(plan, mode.op, items.len() - rest.len(), part);
         let next = Next {
             item,
             wanted,
@@ -355,7 +372,7 @@ fn write_node(
     Ok(())
 }
 
-/// Writes a whole tree, in a flat group or not. It takes the memory for the nodes at once.
+/// Writes a whole tree, in a flat group or not, or counts its text. It takes the memory for the nodes at once.
 pub(crate) fn write_whole(
     alloc: Global,
     plan: &Plan<'_>,
@@ -364,9 +381,9 @@ pub(crate) fn write_whole(
 ) -> Result<Arranger, AllocError>
     requires { IsSound plan.now.definition.now }
     ensures { IfOk result (λ made. (layout : Layout) → AreRulesOf layout plan.now.rules.now
-        → IsWalk made (node_by plan.now layout flat new_walk tree.now)) }
+        → IsWalk made (node_by plan.now layout flat (new_walk (not plan.now.counts)) tree.now)) }
 {
-    let mut arranger = Arranger::new(alloc, nodes(tree) as usize)?;
+    let mut arranger = Arranger::new(alloc, nodes(tree) as usize, !plan.counts)?;
     write_node(alloc, &mut arranger, plan, flat, tree)?;
     Ok(arranger)
 }

@@ -33,8 +33,18 @@ pub(crate) fn after(number: u32) -> Result<u32, AllocError>
     Ok(next)
 }
 
-/// Asks for a break where the operator has one before the item of the number.
+/// Asks for a break where the operator has one before the item of the number. Without breaks nothing is looked up.
 pub(crate) fn ask_at(sheet: &mut Sheet, rules: &Rules, mode: Mode, item: u32)
+    ensures { InksBy rules.now (λ layout k. ink_at layout mode.spaces (Some mode.op) item k) sheet.old sheet.new }
+{
+    match mode.spaces {
+        Some(_) => ask_before(sheet, rules, mode, item),
+        None => {}
+    }
+}
+
+/// Asks for what the mode says where the operator has a break before the item of the number.
+fn ask_before(sheet: &mut Sheet, rules: &Rules, mode: Mode, item: u32)
     ensures { InksBy rules.now (λ layout k. ink_at layout mode.spaces (Some mode.op) item k) sheet.old sheet.new }
 {
     if rules.is_break(mode.op, item) {

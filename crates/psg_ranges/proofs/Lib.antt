@@ -6,3 +6,5 @@ pub mod Below
 pub mod Parts
 pub mod Elements
 pub mod Walks
+pub mod OwnLaws
+pub mod Finds

@@ -1,3 +1,4 @@
 pub mod Brackets
 pub mod Forests
 pub mod Walking
+pub mod Owns

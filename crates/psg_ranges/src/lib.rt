@@ -8,13 +8,19 @@
 //! numbers of its own names. The definition goes by the derivation of the tree from the tokens: brackets around a node
 //! are none of its tokens, and an operator that begins with a slot begins with the brackets around its first child.
 //!
+//! `Ranges::at` finds the range of the node at a path. The call of `laws` does nothing: its contract is the law that a
+//! path leads to the range of its node.
+//!
 //! The walk goes over the tree and takes from it what the tokens are. It looks at a token only where a bracket may be.
 #![tactic(auto)]
 
 mod brackets;
+mod finding;
+pub mod laws;
 mod parsing;
 mod ranges;
 mod reading;
 
+pub use finding::byte_of_end;
 pub use parsing::{Parsed, parse_ranged};
 pub use ranges::{Range, Ranges, ranges_of};

@@ -10,12 +10,13 @@ use psg_grammar::{Definition, Kind};
 use psg_langs::MINI;
 use psg_lexis::{Lexis, Spanned, lex};
 use psg_parse::{Goal, ParseFault, fixed_words, parse};
-use psg_ranges::{Range, ranges_of};
+use psg_ranges::{Range, byte_of_end, ranges_of};
 use psg_terms::Steps;
 use psg_tree::Tree;
 use std::alloc::{AllocError, Global};
 use std::marker::Brand;
 use std::process::Abort;
+use std::slice;
 use std::sync::ledger::{Blank, Ledger};
 use std::test::Fail;
 
@@ -211,6 +212,70 @@ fn nodes_are_among_their_tokens(rt: HostRuntime) -> Result<(), Fail> {
     let definition = mini(rt.alloc())?;
     for rows in ROWS {
         agrees(&rt, rt.alloc(), &definition, rows)?;
+    }
+    Ok(())
+}
+
+/// A text of a kind, a path, and the range of the node there, as a range is written; `none` where there is no node.
+const PATHS: &[(Kind, &str, &[u32], &str)] = &[
+    (Kind::Phylum(1), "(a) + b", &[], " 0-5"),
+    (Kind::Phylum(1), "(a) + b", &[0], " 1-2:1"),
+    (Kind::Phylum(1), "(a) + b", &[1], " 4-5:4"),
+    (Kind::Phylum(1), "(a) + b", &[2], "none"),
+    (Kind::Phylum(1), "(a) + b", &[0, 0], "none"),
+    (Kind::Phylum(1), "(a) + b", &[4_294_967_295], "none"),
+    (Kind::Phylum(1), "((a) + b) & c", &[0, 1], " 5-6:5"),
+    (Kind::Phylum(1), "((a) + b) & c", &[1], " 8-9:8"),
+    (Kind::Phylum(0), "call p((1) + 2, (x))", &[0, 0, 1], " 7-8"),
+    (
+        Kind::Phylum(0),
+        "call p((1) + 2, (x))",
+        &[0, 1],
+        " 10-11:10",
+    ),
+    (Kind::Phylum(0), "call p((1) + 2, (x))", &[1], "none"),
+    (Kind::Phylum(0), "call p()", &[0], " 3-3"),
+    (Kind::List(1), "skip; ...", &[0], " 0-1"),
+    (Kind::List(1), "skip; ...", &[1], "none"),
+    (Kind::List(1), "", &[], " 0-0"),
+];
+
+/// The range of the node at the path, as it is written.
+fn found(
+    alloc: Global,
+    definition: &Definition,
+    kind: Kind,
+    text: &str,
+    path: &[u32],
+) -> Result<String, Fail>
+    requires sound { IsSound definition.now }
+    requires class { IsClass definition.now }
+{
+    let tokens = tokens(alloc, definition, text)?;
+    let tree = tree(alloc, definition, kind, tokens.as_slice())?;
+    let ranges = ranges_of(alloc, definition, kind, &tree, tokens.as_slice())?;
+    match ranges.at(path) {
+        Some(range) => Ok(written(alloc, slice::from_ref(range))?),
+        None => Ok(String::from_str(alloc, "none")?),
+    }
+}
+
+#[test]
+fn paths_lead_to_ranges(rt: HostRuntime) -> Result<(), Fail> {
+    let definition = mini(rt.alloc())?;
+    for (kind, text, path, wanted) in PATHS {
+        let found = found(rt.alloc(), &definition, *kind, text, path)?;
+        assert_eq!(rt; found.as_str(), *wanted, "{text}");
+    }
+    Ok(())
+}
+
+#[test]
+fn nothing_ends_where_the_token_before_does(rt: HostRuntime) -> Result<(), Fail> {
+    let definition = mini(rt.alloc())?;
+    let tokens = tokens(rt.alloc(), &definition, "(a)  + b")?;
+    for (number, byte) in [(0, 0), (1, 1), (3, 3), (4, 6), (5, 8)] {
+        assert_eq!(rt; byte_of_end(tokens.as_slice(), number), byte);
     }
     Ok(())
 }

@@ -29,8 +29,8 @@ write_operator-loop-part-preserved t c =
     (sym (take_more c.args.parts.now c.loop-part.part-index c.part-item.result c.loop-part-test.true ∙ ap (λ x. take c.loop-part.part-index c.args.parts.now ++ x ∷ []) (sym c.part-item.is)))
     (parts-next p.definition.now p.cols (flats_by p) p.counts p.rules.now c.args.mode.spaces c.args.mode.op (take c.loop-part.part-index c.args.parts.now) c.items_of-items.result.now
     c.loop-part.rest.now c.in_ok-following.following.0.now c.loop-part.item c.in_ok-number.number c.in_ok-following.following.1 c.loop-part.child c.in_ok-child.child
-    (record { item = c.loop-part.item; wanted = c.level_wanted-wanted.result; child = c.loop-part.child }) c.part-item.result c.args.arranger.now c.loop-part.arranger c.write_part.new.arranger _
-    c.loop-part.invariant c.items_of-items.ensures refl c.level_wanted-wanted.ensures refl c.in_ok-write_part.ensures c.in_ok-number.ensures
+    (record { item = c.loop-part.item; wanted = c.wanted_at-wanted.result; child = c.loop-part.child }) c.part-item.result c.args.arranger.now c.loop-part.arranger c.write_part.new.arranger _
+    c.loop-part.invariant c.items_of-items.ensures refl c.wanted_at-wanted.ensures refl c.in_ok-write_part.ensures c.in_ok-number.ensures
     (subst (λ xs. InksBy p.rules.now (λ layout k. ink_words layout c.args.mode.spaces (Some c.args.mode.op) c.in_ok-number.number xs k) c.write_part.new.arranger.sheet c.write_words-in-loop-part.new.sheet)
     c.behind_first.ensures c.in_ok-following.ensures.ink)
     refl refl (c.in_ok-following.ensures.rest ∙ ap from_part c.behind_first.ensures)

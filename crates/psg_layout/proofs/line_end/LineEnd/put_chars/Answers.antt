@@ -3,7 +3,7 @@ use Rattle.std.proofs.lemmas.Iterator.{YieldsList-from_chars}
 use Rattle.std.proofs.lemmas.Iterator.Consumers.{YieldsList-end}
 use Rattle.psg_layout.specs.Sheets.{PutsChars}
 use Rattle.psg_layout.proofs.LineLaws.{puts-nothing, puts-then}
-use Rattle.psg_layout.proofs.line_end.LineEnd.put_str.Goals as goal
+use Rattle.psg_layout.proofs.line_end.LineEnd.put_chars.Goals as goal
 
 pub loop-c-init : goal.loop-c-init
 loop-c-init c = puts-nothing c.args.self.now
