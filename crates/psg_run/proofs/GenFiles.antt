@@ -114,13 +114,13 @@ broken_leaves : {def : Definition} {s : State} {line : List ℕ} {before after :
 broken_leaves quiet (at_line files count) = files
 broken_leaves quiet (at_command command spells stopped) = stopped.files
 
-front_leaves : {bytes : List ℕ} {old new : World} {status : Status} → PutsFront bytes old new status
+pub front_leaves : {bytes : List ℕ} {old new : World} {status : Status} → PutsFront bytes old new status
     → new.files ≡ old.files
 front_leaves (put_failed front proper wrote risen) = wrote.files
 front_leaves (put_in_part front proper wrote) = wrote.files
 front_leaves (not_put wrote) = wrote.files
 
-puts_leaves : {bytes : List ℕ} {done status : Status} {old new : World} → Puts bytes done old new status
+pub puts_leaves : {bytes : List ℕ} {done status : Status} {old new : World} → Puts bytes done old new status
     → new.files ≡ old.files
 puts_leaves (put_whole wrote) = wrote.files
 puts_leaves (put_front front) = front_leaves front

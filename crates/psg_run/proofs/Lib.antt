@@ -25,6 +25,7 @@ pub mod WindowOutputs
 pub mod LiveLines
 pub mod EndingWell
 pub mod GenFiles
+pub mod OtherFiles
 pub mod OneRun
 pub mod WindowRuns
 pub mod ArrangedRuns

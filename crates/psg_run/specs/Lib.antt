@@ -15,4 +15,5 @@ pub mod Playing
 pub mod Turns
 pub mod Outputs
 pub mod WindowLaws
+pub mod ExportLaws
 pub mod Wanted

@@ -6,6 +6,7 @@ ghost use Rattle.psg_grammar.specs.Sound.{IsSound};
 ghost use Rattle.psg_grammar.specs.WellFormed.{fixed_words};
 ghost use Rattle.psg_grammar.specs.declared.types.Definition.{Definition as Plain};
 ghost use Rattle.psg_lexis.specs.Tokens.{IsFixedWord};
+ghost use Rattle.psg_run.specs.ExportLaws.{WritesNoOther};
 ghost use Rattle.psg_run.specs.Outputs.{ArrangedReadsBack, EndsWell, HasOneOutput, HasOneRun, HasSomeOutput};
 ghost use Rattle.psg_run.specs.Outputs.{KeepsForms, LeavesFiles, RepliesAlike};
 ghost use Rattle.psg_run.specs.Reading.{IsAccepted as IsAcceptedText, IsRefusalLine};
@@ -71,6 +72,11 @@ pub fn live_as_script(definition: &Definition)
 /// States that `gen` leaves the files as they were, whatever its status is. The call has no cost.
 pub fn gen_leaves_files()
     ensures { LeavesFiles }
+{}
+
+/// States that `self` writes no file but its own, once the commands of its script are played. The call has no cost.
+pub fn self_writes_no_other()
+    ensures { WritesNoOther }
 {}
 
 /// States that two runs of `edit` on the definition, or two of `windows`, or two of `layout`, with status 0 and over

@@ -17,3 +17,11 @@ mod FormsTold
 mod LineOnce
 mod TextLines
 mod OnlySays
+mod BackWritten
+mod TreesSame
+mod DeclsOnce
+mod FileShape
+mod RowFacts
+mod KnownLines
+mod ThereLines
+mod There

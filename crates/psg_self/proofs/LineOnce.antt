@@ -95,7 +95,7 @@ own-apart (c ∷ cs) h = ((λ e. false≢true (ap (list_all is_broad) (sym e) �
 abbrev key : List ℕ → ℕ
 key w = length w * 256 + get_or w 5 0
 
-words-are : (l : Level) → IsLevel l → level_parts l ≡ level_words l
+pub words-are : (l : Level) → IsLevel l → level_parts l ≡ level_words l
 words-are levels.Plain h = refl
 words-are (levels.Prefix n) h = ap (λ d. codes "prefix" ∷ d ∷ []) (sym (decimal_digit n (omega (arith, h.1))))
 words-are (levels.Postfix n) h = ap (λ d. codes "postfix" ∷ d ∷ []) (sym (decimal_digit n (omega (arith, h.1))))

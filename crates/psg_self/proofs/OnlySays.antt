@@ -42,7 +42,7 @@ use Rattle.psg_self.proofs.TextLines.{IsLineText, text_of, texts-again, fed-line
 
 -- ---- no line of an exported text is skipped
 
-own-not-skipped : (own : Line) → IsOwnLine own → IsSkipped (text_of own) → ⊥
+pub own-not-skipped : (own : Line) → IsOwnLine own → IsSkipped (text_of own) → ⊥
 own-not-skipped (lines.Sort d) h e = omega (arith, e)
 own-not-skipped (lines.Phylum n s b) h e = omega (arith, e)
 own-not-skipped (lines.Operator n p s l is) h e = omega (arith, e)
@@ -90,7 +90,7 @@ module _ (def : Definition) (none : def.spaces ≡ []) where
   declares-no : (n : ℕ) (is : List Item) (cs : List ℕ) → AreColumns def (part_items (made.Declares n ∷ is)) cs → ⊥
   declares-no n is cs (s, more, e, h, hs) = no-space n s h
 
-  items-no : (ms : List LineItem) (is : List Item) → AreItems def ms is → list_any is_name_item ms ≡ true → (cs : List ℕ)
+  pub items-no : (ms : List LineItem) (is : List Item) → AreItems def ms is → list_any is_name_item ms ≡ true → (cs : List ℕ)
       → AreColumns def (part_items is) cs → ⊥
   items-no [] is h odd cs k = false≢true odd
   items-no (items.Refers s ∷ ms) is h odd cs k =
@@ -182,7 +182,7 @@ plain-variables (lines.Cell n t u v) h = tt
 plain-variables (lines.Case t w) h = tt
 plain-variables (lines.Declare a n t u w) h = tt
 
-entries-formed : (above : List Line) (ts : List (List ℕ)) (es : List Entry) → AreEntries above ts es → AllByRecursion HasForm (written es)
+pub entries-formed : (above : List Line) (ts : List (List ℕ)) (es : List Entry) → AreEntries above ts es → AllByRecursion HasForm (written es)
 entries-formed above [] [] h = tt
 entries-formed above [] (e ∷ es) h = absurd h
 entries-formed above (t ∷ ts) [] h = absurd h
@@ -282,7 +282,7 @@ passed-sorted file above (l ∷ ls) h =
 
 -- ---- the whole
 
-head-one : (ts : List (List ℕ)) → HasHead 1 (codes "psg 1" ∷ ts)
+pub head-one : (ts : List (List ℕ)) → HasHead 1 (codes "psg 1" ∷ ts)
 head-one ts = (inl refl, (1, codes "1", refl, refl, refl))
 
 pub only-says : SpellOnce → AreTold → ((n : ℕ) → IsRun (decimal n)) → (f : Fragment) → AllByRecursion IsOwnLine (lines_in f)

@@ -125,7 +125,7 @@ laid-spaced (suc n) q qs x h =
 
 -- ---- the parts of a definition's lines are such pieces
 
-all-weaker : (p q : ℕ → Bool) → ((c : ℕ) → p c ≡ true → q c ≡ true) → (xs : List ℕ) → list_all p xs ≡ true → list_all q xs ≡ true
+pub all-weaker : (p q : ℕ → Bool) → ((c : ℕ) → p c ≡ true → q c ≡ true) → (xs : List ℕ) → list_all p xs ≡ true → list_all q xs ≡ true
 all-weaker p q f [] h = refl
 all-weaker p q f (x ∷ xs) h =
     let both = and_parts (p x) (list_all p xs) h in and_from (q x) (list_all q xs) (f x both.0) (all-weaker p q f xs both.1)
@@ -136,7 +136,7 @@ word-broad c h = or_left (goes_on_word c) (nat_le 128 c) h
 plain-word : (c : ℕ) → is_plain c ≡ true → goes_on_word c ≡ true
 plain-word c h = or_left (is_upper c || is_lower c || is_digit c || (c == 95)) (c == 64) (or_left (is_upper c || is_lower c || is_digit c) (c == 95) h)
 
-behind-word : (s c : ℕ) → goes_behind s c ≡ true → goes_on_word c ≡ true
+pub behind-word : (s c : ℕ) → goes_behind s c ≡ true → goes_on_word c ≡ true
 behind-word s c h = by_sigil (s == 63) h
   where
     by_sigil : (b : Bool) → cond b (is_plain c) (is_lower c || is_digit c) ≡ true → goes_on_word c ≡ true
@@ -175,6 +175,11 @@ word-low c h = elim (cases_lt c 128) [
     above : (d : ℕ) → 128 ≤ d → goes_on_word d ≡ false
     above d large = grind (arith, nat_tests)
 
+pub kind-high : (d : ℕ) → 128 ≤ d → kind_of_byte d ≡ 2 → ⊥
+kind-high d large k =
+    let b : is_broad d ≡ true = or_right (goes_on_word d) (nat_le 128 d) (grind (arith, nat_tests)) in
+    omega (arith, sym k ∙ ap (λ t. cond t 0 (cond (is_sigil d) 1 (cond (is_mark d) 2 (cond (d == 34) 3 4)))) b)
+
 part-low : (p : List ℕ) → IsPart p → (x : List ℕ) → begins_high (p ++ x) ≡ false
 part-low [] (a_word w) x = absurd (omega (arith, w.0))
 part-low (c ∷ cs) (a_word w) x = word-low c (and_parts (goes_on_word c) (list_all goes_on_word cs) w.1).0
@@ -184,13 +189,8 @@ part-low p (a_mark m) x = ap (λ z. begins_high (z ++ x)) m.whole ∙ low m.mark
     low c h = let k = eqb-true (kind_of_byte c) 2 (any-is (λ d. kind_of_byte d == 2) c (codes ":=(),[]|") h refl) in
         elim (cases_lt c 128) [
           | inl small ↦ grind (arith, nat_tests)
-          | inr large ↦ absurd (broad-not c large k)
+          | inr large ↦ absurd (kind-high c large k)
         ]
-      where
-        broad-not : (d : ℕ) → 128 ≤ d → kind_of_byte d ≡ 2 → ⊥
-        broad-not d large k =
-            let b : is_broad d ≡ true = or_right (goes_on_word d) (nat_le 128 d) (grind (arith, nat_tests)) in
-            omega (arith, sym k ∙ ap (λ t. cond t 0 (cond (is_sigil d) 1 (cond (is_mark d) 2 (cond (d == 34) 3 4)))) b)
 part-low p (a_sigil g) x = ap (λ z. begins_high (z ++ x)) g.whole ∙ low g.sigil g.is
   where
     low : (c : ℕ) → is_sigil c ≡ true → nat_le 128 c ≡ false
