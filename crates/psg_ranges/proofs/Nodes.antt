@@ -31,7 +31,7 @@ after_own before own rest tokens at t a =
     ap (λ n. drop n tokens) a ∙ ap (drop (length before + length own)) t ∙ drop-append-add before (own ++ rest) (length own) ∙ drop-append_seam own rest
 
 -- the node of a list
-list_node : {def : Definition} {f : Fragment} {l depth : ℕ} {ts : List Token} (y : ListYields def f l depth ts) (start : ℕ) (beside : Forest)
+pub list_node : {def : Definition} {f : Fragment} {l depth : ℕ} {ts : List Token} (y : ListYields def f l depth ts) (start : ℕ) (beside : Forest)
     → node start (start + length ts) [] (list_below y start) beside ≡ of_list y start beside
 list_node (no_elements kind found) start beside = ap (λ e. node start e [] no_nodes beside) (omega arith)
 list_node (only_more kind found unfinished) start beside = refl

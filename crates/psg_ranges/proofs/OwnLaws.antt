@@ -236,7 +236,7 @@ module _ (def : Definition) (tokens : List Token) where
 
   -- ---- the range of a node
 
-  range_of : ℕ → ℕ → List ℕ → Forest → Range
+  abbrev range_of : ℕ → ℕ → List ℕ → Forest → Range
   range_of start end names below = record { start = start; end = end; nodes = suc (length (ranges_in below)); names = names }
 
   begun_range : (t : Fragment) (nodes : Forest) → Begun def tokens t nodes → (r : Range) × (first_range nodes ≡ Some r) × IsRangeOf def tokens t r
@@ -284,15 +284,15 @@ module _ (def : Definition) (tokens : List Token) where
   abbrev Led : Option Fragment → Forest → Type 0
   Led o nodes = ((g : Fragment) → o ≡ Some g → Begun def tokens g nodes) × (o ≡ None → nodes ≡ no_nodes)
 
+  led_step : (k : ℕ) (path : Path) (t : Fragment) (nodes : Forest) → Kid (children_of t) (below_first nodes) k
+      → ((u : Fragment) (below : Forest) → Begun def tokens u below → Led (node_at u path) (at_path below path))
+      → (o : Option Fragment) → slice_get (children_of t) k ≡ o → Led (option_and_then (λ u. node_at u path) o) (at_path (from_nth (below_first nodes) k) path)
+  led_step k path t nodes kid go None e = (λ g h. absurd (none_some g h), λ h. ap (λ x. at_path x path) (kid.1 e) ∙ no_path path)
+  led_step k path t nodes kid go (Some u) e = go u (from_nth (below_first nodes) k) (kid.0 u e)
+
   led : (path : Path) (t : Fragment) (nodes : Forest) → Begun def tokens t nodes → Led (node_at t path) (at_path nodes path)
   led [] t nodes b = (λ g e. subst (λ x. Begun def tokens x nodes) (same_some t g e) b, λ e. absurd (none_some t (sym e)))
-  led (k ∷ path) t nodes b = step (slice_get (children_of t) k) refl where
-    kid : Kid (children_of t) (below_first nodes) k
-    kid = kids t nodes b k
-
-    step : (o : Option Fragment) → slice_get (children_of t) k ≡ o → Led (option_and_then (λ u. node_at u path) o) (at_path (from_nth (below_first nodes) k) path)
-    step None e = (λ g h. absurd (none_some g h), λ h. ap (λ x. at_path x path) (kid.1 e) ∙ no_path path)
-    step (Some u) e = led path u (from_nth (below_first nodes) k) (kid.0 u e)
+  led (k ∷ path) t nodes b = led_step k path t nodes (kids t nodes b k) (λ u below c. led path u below c) (slice_get (children_of t) k) refl
 
   begun_has : (t : Fragment) (nodes : Forest) → Begun def tokens t nodes → HasRanges def tokens t nodes
   begun_has t nodes b = record {

@@ -51,7 +51,10 @@ fn from_nth(ranges: &[Range], number: u32) -> &[Range]
 {
     let mut rest = ranges;
     let mut left = number;
-    'nodes: while left > 0 && !rest.is_empty() {
+    'nodes: while left > 0 {
+        if rest.is_empty() {
+            return rest;
+        }
         rest = beside(rest);
         left -= 1;
     }
