@@ -1,11 +1,11 @@
 -- An exported text has its parts as a line of a definition's file has them.
-use Rattle.std.proofs.Common.{arith, ◌≡◌, ◌==◌, ◌||◌, ◌&&◌, ℕ, zero, suc, ◌<◌, ◌≤◌, Bool, true, false, cond, inl, inr, Option, Some, None, List, [], ◌∷◌, ◌++◌, length, replicate, refl, ap, sym, ◌∙◌, subst, append_assoc, append-nil, codes}
-use Rattle.std.specs.List.{AllByRecursion, list_all, flat_map}
+use Rattle.std.proofs.Common.{arith, ◌≡◌, ◌==◌, ◌&&◌, ℕ, zero, suc, Bool, true, false, cond, inl, inr, List, [], ◌∷◌, ◌++◌, replicate, refl, ap, sym, ◌∙◌, subst, append-nil}
+use Rattle.std.specs.List.{flat_map}
 use Rattle.std.proofs.lemmas.Bool.{cases_Bool, false≢true, or_parts}
 use Rattle.psg_lexis.specs.Tokens.{escaped}
 use Rattle.psg_deflines.specs.Written.{goes_on_word, ends_word, begins_word, IsWritten}
 use Rattle.psg_deflines.specs.Parts.{is_mark, is_sigil}
-use Rattle.psg_self.specs.Pieces.{is_broad, begins_broad, IsRun, Piece, run_piece, sign_piece, mark_piece, quote_piece, IsEnded, Laid}
+use Rattle.psg_self.specs.Pieces.{is_broad, begins_broad, Piece, run_piece, sign_piece, mark_piece, quote_piece, IsEnded, Laid}
 use Rattle.psg_self.proofs.QuoteOnce.{quoted-is}
 use Rattle.psg_self.proofs.PiecesOnce.{kind_of_byte, mark-kind}
 use Rattle.psg_self.proofs.LinesLaid.{first_byte}
@@ -64,13 +64,8 @@ behind-spaces p (q ∷ ps) x (n, rest, a, e, k, w) =
       spaces = n;
       rest = p ++ rest;
       split = e;
-      written = (
-        more.spaces,
-        more.rest,
-        ap (λ t. p ++ t) more.split,
-        subst (λ t. (ends_word p && begins_word t) ≡ false) more.split (apart-of p a rest k),
-        more.written,
-      );
+      written = (more.spaces, more.rest, ap (λ t. p ++ t) more.split,
+          subst (λ t. (ends_word p && begins_word t) ≡ false) more.split (apart-of p a rest k), more.written);
     }
 
 pub laid-written : (p : List ℕ) (ps : List (List ℕ)) (x : List ℕ) → Laid (p ∷ ps) x → (first_byte x ≡ 32 → ⊥) → IsWritten (p ∷ ps) x

@@ -1,15 +1,13 @@
 -- The lines of two files of one definition: the lines of sorts, phyla and operators are the same.
-use Rattle.std.proofs.Common.{arith, ◌≡◌, ◌||◌, ℕ, zero, suc, Bool, true, false, cond, is_some, Option, Some, None, List, [], ◌∷◌, ◌++◌, length, map, slice_get, refl, ap, ap₂, sym, ◌∙◌, subst}
+use Rattle.std.proofs.Common.{◌≡◌, false, cond, Some, List, [], ◌∷◌, map, refl, ap, ap₂, sym, ◌∙◌}
 use Rattle.std.specs.Prelude.{bytes_eq}
 use Rattle.std.specs.List.{AllByRecursion, list_any}
 use Rattle.std.proofs.lemmas.Bool.{false≢true, or_parts}
 use Rattle.psg_terms.specs.Names.{Name}
 use Rattle.psg_terms.specs.declared.declare.SortDecl.{SortDecl}
-use Rattle.psg_terms.specs.declared.sorts.SortId.{SortId}
 use Rattle.psg_grammar.specs.declared.types.Kind.{Kind}
 use Rattle.psg_grammar.specs.declared.types.Kind.TheVariants as kinds
 use Rattle.psg_grammar.specs.declared.types.Item.{Item}
-use Rattle.psg_grammar.specs.declared.types.Item.TheVariants as made
 use Rattle.psg_grammar.specs.declared.types.Phylum.{Phylum}
 use Rattle.psg_grammar.specs.declared.types.ListKind.{ListKind}
 use Rattle.psg_grammar.specs.declared.types.Operator.{Operator}
@@ -19,8 +17,8 @@ use Rattle.psg_deflines.specs.declared.lines.LineItem.TheVariants as items
 use Rattle.psg_deflines.specs.declared.lines.Line.{Line}
 use Rattle.psg_deflines.specs.declared.lines.Line.TheVariants as lines
 use Rattle.psg_defcheck.specs.Meanings.{is_name_item, AreInhabited, none, more}
-use Rattle.psg_defcheck.specs.Scopes.{sort_names, sort_declared, constructor_among, constructor_declared, kind_declared, a_phylum, operator_declared, is_phylum, is_kind}
-use Rattle.psg_defnumber.specs.Numbers.{sort_decls, IsKind, IsSort, ArePhyla, IsItem, AreItems, IsOperator, AreOperators, AreLists}
+use Rattle.psg_defcheck.specs.Scopes.{sort_names, sort_declared, constructor_among, constructor_declared, kind_declared, a_phylum, operator_declared}
+use Rattle.psg_defnumber.specs.Numbers.{sort_decls, IsKind, ArePhyla, IsItem, AreItems, AreOperators}
 use Rattle.psg_defread.specs.WrittenLines.{sort_name, kind_name, phylum_line, item_written}
 use Rattle.psg_defread.proofs.NumberNames.{name-found}
 

@@ -1,5 +1,5 @@
 -- The lines of a file pass the tests of their meaning, where those of another file of the same definition do.
-use Rattle.std.proofs.Common.{arith, ◌≡◌, ◌||◌, ◌⊎◌, ℕ, ◌+◌, Bool, true, false, cond, is_some, IsTrue, inl, inr, Option, Some, None, List, [], ◌∷◌, ◌++◌, length, map, slice_get, refl, ap, sym, ◌∙◌, subst}
+use Rattle.std.proofs.Common.{arith, ◌≡◌, ℕ, ◌+◌, Bool, true, false, cond, is_some, IsTrue, inl, inr, Option, Some, None, List, [], ◌∷◌, ◌++◌, length, map, slice_get, refl, ap, sym, ◌∙◌, subst}
 use Rattle.std.specs.Prelude.{bytes_eq}
 use Rattle.std.specs.List.{AllByRecursion, list_any}
 use Rattle.std.proofs.lemmas.Bool.{or_cases, false≢true}
@@ -12,7 +12,7 @@ use Rattle.psg_terms.specs.declared.declare.SortDecl.{SortDecl}
 use Rattle.psg_grammar.specs.declared.types.Level.{Level}
 use Rattle.psg_terms.specs.Declarations.{IsSpelled}
 use Rattle.psg_terms.proofs.Lists.{slice_get-map_some}
-use Rattle.psg_terms.proofs.DeclareLaws.{is_among-at, is_among-append}
+use Rattle.psg_terms.proofs.DeclareLaws.{is_among-at}
 use Rattle.psg_terms.proofs.DeclareFaults.{symbol_names}
 use Rattle.psg_deflines.specs.WrittenTerms.{WrittenTerm, variable, named, apply}
 use Rattle.psg_deflines.specs.WrittenTrees.{WrittenTree}
@@ -22,12 +22,12 @@ use Rattle.psg_deflines.specs.declared.lines.LineItem.TheVariants as items
 use Rattle.psg_deflines.specs.declared.lines.Line.{Line}
 use Rattle.psg_deflines.specs.declared.lines.Line.TheVariants as lines
 use Rattle.psg_defcheck.specs.Scopes.{Constructor, constructor_names, names_of, constructor_among, constructor_declared, operator_declared, is_phylum, is_kind, OpDecl, Place, last_operator}
-use Rattle.psg_defcheck.specs.Meanings.{KnowsTerm, KnowsTree, KnowsSort, KnowsItem, IsKnown, CountsTerm, CountsTree, IsCounted, IsArity, IsPartCount, IsColumnCount, count_of, has_part, has_column, PartPlace, for_tree, part_places, column_places, SortsTerm, SortAll, SortsTree, SortsRow, SortsLine, Accepts, TakesParts, HasEntity, HasGround, HasChoice, is_name_item}
+use Rattle.psg_defcheck.specs.Meanings.{KnowsTerm, KnowsTree, KnowsSort, KnowsItem, IsKnown, CountsTerm, CountsTree, IsCounted, IsArity, IsPartCount, IsColumnCount, count_of, has_column, PartPlace, for_tree, column_places, SortsTerm, SortAll, SortsTree, SortsRow, SortsLine, Accepts, TakesParts, HasEntity, is_name_item}
 use Rattle.psg_defnumber.specs.Numbers.{sort_decls, IsTerm, AreTerms}
 use Rattle.psg_defnumber.proofs.OnceLaws.{decls-constructors}
 use Rattle.psg_defread.proofs.PassedItems.{parts-counted}
 use Rattle.psg_self.proofs.LinesLaid.{IsOwnTree, IsOwnItem}
-use Rattle.psg_self.proofs.FileShape.{HasSame, same-sort_names, same-kind_declared, same-operator_declared, same-inhabited}
+use Rattle.psg_self.proofs.FileShape.{HasSame, same-sort_names, same-kind_declared, same-operator_declared}
 
 -- ---- constructors
 

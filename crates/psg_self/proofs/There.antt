@@ -1,54 +1,51 @@
 -- What a tree says and some bytes spell without a fault, its exported text is read as.
-use Rattle.std.proofs.Common.{arith, ◌≡◌, ◌==◌, ◌≢◌, ◌||◌, ◌⊎◌, ◌≤◌, ℕ, ◌+◌, ◌<◌, Bool, true, false, inl, inr, Option, Some, None, List, [], ◌∷◌, ◌++◌, length, map, slice_get, is_some, IsTrue, refl, ap, ap₂, sym, ◌∙◌, subst, append_assoc, append-nil, codes, decimal}
+use Rattle.std.proofs.Common.{arith, ◌≡◌, ◌==◌, ◌≤◌, ℕ, ◌<◌, true, false, inl, inr, Some, None, List, [], ◌∷◌, ◌++◌, length, map, is_some, refl, ap, sym, ◌∙◌, subst, codes, decimal}
 use Rattle.std.specs.Prelude.{IsUtf8, chars}
 use Rattle.std.specs.Str.{all_scalars}
-use Rattle.std.specs.List.{AllByRecursion, list_any, list_all, flat_map}
+use Rattle.std.specs.List.{AllByRecursion, list_any}
 use Rattle.std.specs.Str.Lines.{lines as texts_of}
-use Rattle.std.proofs.lemmas.Bool.{false≢true, cases_Bool, and_parts, and_from, or_cases, or_right, eqb-true, cases_lt}
+use Rattle.std.proofs.lemmas.Bool.{false≢true, cases_Bool, and_parts, and_from, or_cases, eqb-true, cases_lt}
 use Rattle.std.proofs.lemmas.Bool.Decides.{eqb_tells}
 use Rattle.std.proofs.lemmas.Str.{IsUtf8-append, scalars-chars}
 use lib.Utf8.{scalar}
-use Rattle.psg_terms.specs.Names.{Name}
 use Rattle.psg_grammar.specs.declared.types.ListKind.{ListKind}
 use Rattle.psg_grammar.specs.declared.types.Operator.{Operator}
 use Rattle.psg_grammar.specs.declared.types.Definition.{Definition}
 use Rattle.psg_grammar.specs.Fragments.{Fragment}
 use Rattle.psg_grammar.specs.Sound.{IsSound}
-use Rattle.psg_lexis.specs.Tokens.{escaped, quoted}
+use Rattle.psg_lexis.specs.Tokens.{quoted}
 use Rattle.psg_deflines.specs.WrittenTerms.{WrittenTerm, most_nested}
 use Rattle.psg_deflines.specs.WrittenTrees.{WrittenTree, HasTreeForm, IsShallowTree, quoted_part}
 use Rattle.psg_deflines.specs.Written.{IsWritten}
 use Rattle.psg_deflines.specs.Parts.{is_mark, is_sigil, IsPart, a_word, a_mark, a_sigil, a_quoted}
-use Rattle.psg_deflines.specs.Forms.{SpellsLine, HasForm, HasFormBehindBy, HasFixedWords, IsShallow, IsShallowBehindBy, parts_of, item_part}
+use Rattle.psg_deflines.specs.Forms.{HasForm, IsShallow, parts_of, item_part}
 use Rattle.psg_deflines.specs.Versions.{is_of}
-use Rattle.psg_deflines.specs.Entries.{Entry, AreEntries, AreSpelled, HasHead, behind_head, written, IsPlain, IsLineBehind, HasPlace}
+use Rattle.psg_deflines.specs.Entries.{AreEntries, AreSpelled, behind_head, written, IsPlain, HasPlace}
 use Rattle.psg_deflines.specs.declared.lines.Line.{Line}
 use Rattle.psg_deflines.specs.declared.lines.Line.TheVariants as lines
 use Rattle.psg_deflines.proofs.SpellLaws.{line-parts}
 use Rattle.psg_defcheck.specs.Scopes.{last_operator, kind_declared}
 use Rattle.psg_defcheck.proofs.AboveLaws.{last_operator-append}
-use Rattle.psg_defcheck.specs.Meanings.{IsKnown, IsSorted, IsCounted, HasEntity, HasGround, HasChoice, KnowsTree, is_name_item}
+use Rattle.psg_defcheck.specs.Meanings.{IsKnown, IsSorted, HasGround, HasChoice, KnowsTree, is_name_item}
 use Rattle.psg_defcheck.specs.Faults.{ArePassed}
 use Rattle.psg_defnumber.specs.Numbers.{IsNumbered, AreRows, AreOperators, AreLists, sort_decls}
 use Rattle.psg_defread.specs.DefinitionText.{fed}
-use Rattle.psg_defread.specs.Reading.{IsReadAs, IsFaultless, Spells}
-use Rattle.psg_defread.specs.WrittenLines.{phylum_line}
-use Rattle.psg_defread.proofs.JoinFaults.{heads-same, text-plain, text-faultless}
+use Rattle.psg_defread.specs.Reading.{IsReadAs, IsFaultless}
+use Rattle.psg_defread.proofs.JoinFaults.{text-plain, text-faultless}
 use Rattle.psg_defread.proofs.JoinTexts.{written-some}
 use Rattle.psg_defread.proofs.PassedTests.{PassesRest, AreRight, all-passed}
 use Rattle.psg_self.specs.SelfLines.{lines_in}
-use Rattle.psg_self.specs.Export.{exported, exported_words, spaced, level_words}
-use Rattle.psg_self.specs.Says.{HasPlainVariables, AreSorted, Says}
+use Rattle.psg_self.specs.Export.{exported}
+use Rattle.psg_self.specs.Says.{AreSorted, Says}
 use Rattle.psg_self.specs.Pieces.{IsRun, Laid}
 use Rattle.psg_self.proofs.PiecesOnce.{kind_of_byte, mark-kind, kind-high, all-weaker, behind-word}
-use Rattle.psg_self.proofs.QuoteOnce.{quoted-is}
-use Rattle.psg_self.proofs.LinesLaid.{first_byte, IsOwnTerm, IsOwnTree, IsOwnItem, IsOwnLine, own_parts, line-laid}
+use Rattle.psg_self.proofs.LinesLaid.{first_byte, IsOwnLine, own_parts, line-laid}
 use Rattle.psg_self.proofs.LineOnce.{SpellOnce, words-are}
 use Rattle.psg_self.proofs.TextLines.{IsLineText, text_of, texts-again, fed-lines, lines-texts}
 use Rattle.psg_self.proofs.OnlySays.{own-not-skipped, items-no, head-one, entries-formed, text-passed}
 use Rattle.psg_self.proofs.DeclsOnce.{decls-once}
 use Rattle.psg_self.proofs.FileShape.{IsUsual, IsNoList, HasNoNameItems, HasSame, sorts_in, phyla_in, operators_in, rows_in, holes_in, of-sorts, of-phyla, of-operators, of-all, sorts-same, phyla-same, phyla-are, operators-same, same-inhabited, kind-declared-in}
-use Rattle.psg_self.proofs.RowFacts.{HasSmall, IsSmallRow, operators-shallow, rows-right, holes-good, holes-right, HasGood, HasOwnTree, IsGoodHole, IsRowLine, IsRightRow, IsHoleLine, IsRightHole}
+use Rattle.psg_self.proofs.RowFacts.{HasSmall, operators-shallow, rows-right, holes-good, holes-right, HasGood, HasOwnTree, IsRightRow, IsRightHole}
 use Rattle.psg_self.proofs.KnownLines.{HasOperator, own-no-name, term-known, terms-known, tree-known, sort-line-known, phylum-line-known, operator-line-known, operator-line-entity, row-line-counted, hole-line-counted}
 use Rattle.psg_self.proofs.ThereLines.{each-row, each-hole, row-form, hole-form, kind-found, own-version, AreReady, IsReadyFor, tree-ready, written-utf8, ascii-utf8, word-low}
 use Rattle.psg_self.proofs.BackWritten.{laid-written}
@@ -399,11 +396,8 @@ module _ (once : SpellOnce) (digits : (n : ℕ) → IsRun (decimal n)) where
           high : (d : ℕ) → 128 ≤ d → kind_of_byte d ≡ 2 → ⊥
           high d large k = kind-high d large k
   part-utf8 p (a_sigil g) =
-      subst IsUtf8 (sym g.whole) (ascii-utf8 (g.sigil ∷ g.name) (
-        sign-low g.sigil g.is,
-        word-low g.name
-            (all-weaker _ _ (behind-word g.sigil) g.name g.run),
-      ))
+      subst IsUtf8 (sym g.whole) (ascii-utf8 (g.sigil ∷ g.name) (sign-low g.sigil g.is, word-low g.name
+      (all-weaker _ _ (behind-word g.sigil) g.name g.run)))
   part-utf8 p (a_quoted q) = subst IsUtf8 (sym q.whole) (quoted-utf8 q.contents q.is.utf8)
 
   text-utf8 : (ls : List Line) → AllByRecursion IsOwnLine ls → AllByRecursion HasForm ls → IsUtf8 (fed (map text_of ls))

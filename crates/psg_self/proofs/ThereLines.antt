@@ -1,9 +1,8 @@
 -- The lines of a tree that says a definition: their forms, and where rows are.
-use Rattle.std.proofs.Common.{arith, ◌≡◌, ◌==◌, ◌||◌, ◌≤◌, ℕ, zero, suc, ◌<◌, Bool, true, false, cond, is_some, IsTrue, inl, inr, Option, Some, None, List, [], ◌∷◌, ◌++◌, length, map, replicate, slice_get, refl, ap, sym, ◌∙◌, subst, append_assoc, append-nil, codes}
+use Rattle.std.proofs.Common.{arith, ◌≡◌, ◌≤◌, ℕ, zero, suc, ◌<◌, Bool, true, false, cond, is_some, inl, inr, Option, Some, None, List, [], ◌∷◌, ◌++◌, map, replicate, slice_get, refl, ap, sym, ◌∙◌, subst}
 use Rattle.std.specs.Prelude.{bytes_eq, not, IsUtf8}
-use Rattle.std.specs.List as lists
 use Rattle.std.specs.List.{AllByRecursion, list_any, list_all, flat_map}
-use Rattle.std.proofs.lemmas.Bool.{false≢true, true≢false, cases_Bool, and_parts, or_left, or_right, cases_lt}
+use Rattle.std.proofs.lemmas.Bool.{false≢true, and_parts, cases_lt}
 use Rattle.std.proofs.lemmas.Bool.Decides.{nat_tests}
 use Rattle.std.proofs.lemmas.List.Elements.{All-from_recursion}
 use Rattle.std.proofs.lemmas.Str.{IsUtf8-append, IsUtf8-from_ascii}
@@ -15,26 +14,24 @@ use Rattle.psg_grammar.specs.declared.types.Kind.{Kind}
 use Rattle.psg_grammar.specs.declared.types.Kind.TheVariants as kinds
 use Rattle.psg_grammar.specs.declared.types.Phylum.{Phylum}
 use Rattle.psg_grammar.specs.declared.types.ListKind.{ListKind}
-use Rattle.psg_grammar.specs.declared.types.Operator.{Operator}
 use Rattle.psg_grammar.specs.declared.types.Definition.{Definition}
 use Rattle.psg_grammar.specs.Fragments.{Fragment}
 use Rattle.psg_grammar.specs.Sound.{IsSound, IsPhylum, IsKindName}
 use Rattle.psg_deflines.specs.WrittenTerms.{WrittenTerm}
 use Rattle.psg_deflines.specs.WrittenTrees.{WrittenTree, HasTreeForm}
 use Rattle.psg_deflines.specs.Written.{IsWritten, goes_on_word}
-use Rattle.psg_deflines.specs.Parts.{IsPart, a_word, a_mark, a_sigil, a_quoted}
-use Rattle.psg_deflines.specs.Forms.{HasForm, parts_of, SpellsLine, IsShallow}
+use Rattle.psg_deflines.specs.Parts.{IsPart}
+use Rattle.psg_deflines.specs.Forms.{HasForm}
 use Rattle.psg_deflines.specs.Versions.{is_of, names_space}
-use Rattle.psg_deflines.specs.Entries.{takes_rows, HasPlace}
+use Rattle.psg_deflines.specs.Entries.{takes_rows}
 use Rattle.psg_deflines.specs.declared.lines.LineItem.{LineItem}
 use Rattle.psg_deflines.specs.declared.lines.LineItem.TheVariants as items
 use Rattle.psg_deflines.specs.declared.lines.Line.{Line}
 use Rattle.psg_deflines.specs.declared.lines.Line.TheVariants as lines
-use Rattle.psg_defcheck.specs.Scopes.{last_operator, OpDecl, kind_declared, a_phylum}
+use Rattle.psg_defcheck.specs.Scopes.{last_operator, kind_declared, a_phylum}
 use Rattle.psg_defcheck.proofs.AboveLaws.{last_operator-append}
 use Rattle.psg_defnumber.specs.Numbers.{IsKind}
 use Rattle.psg_defread.specs.WrittenLines.{phylum_line, sort_name}
-use Rattle.psg_defread.proofs.JoinTexts.{part-clear}
 use Rattle.psg_self.specs.declared.form.Form.{Form}
 use Rattle.psg_self.specs.declared.form.Form.TheVariants as forms
 use Rattle.psg_self.specs.NodeParts.{form_of, elements_at, elements_of}
@@ -81,19 +78,16 @@ module _ (def : Definition) (sound : IsSound def) (no_lists : def.lists ≡ []) 
 
   pub row-form : (Small : ℕ → Type 0) (w : WrittenTerm) (ws : List WrittenTerm) → IsOwnLine (lines.Row w ws) → HasPlainVariables (lines.Row w ws)
       → IsRowLine def Small w ws → HasForm (lines.Row w ws)
-  row-form Small w ws o v r = (
-    term-form def.signature sound.constructor_names r.is.names [] r.sort w r.row.head r.is.of_head o.0 v.0,
-    terms-form def.signature sound.constructor_names r.is.names r.columns ws r.row.columns r.is.of_columns o.1 v.1,
-  )
+  row-form Small w ws o v r =
+      (term-form def.signature sound.constructor_names r.is.names [] r.sort w r.row.head r.is.of_head o.0 v.0,
+      terms-form def.signature sound.constructor_names r.is.names r.columns ws r.row.columns r.is.of_columns o.1 v.1)
 
   pub hole-form : (Small : ℕ → Type 0) (k : Name) (w : WrittenTerm) (tree : WrittenTree) → IsOwnLine (lines.Hole k w (Some tree))
       → HasPlainVariables (lines.Hole k w (Some tree)) → IsHoleLine def Small HasTreeForm k w tree → HasForm (lines.Hole k w (Some tree))
   hole-form Small k w tree o v h =
-      let c = h.is.has_cases in (
-        kind-form k h.row.kind h.is.of_kind,
-        term-form def.signature sound.constructor_names c.3.names [] h.is.sort w c.0.term c.3.of_term o.1 v,
-        h.good,
-      )
+      let c = h.is.has_cases in
+      (kind-form k h.row.kind h.is.of_kind,
+      term-form def.signature sound.constructor_names c.3.names [] h.is.sort w c.0.term c.3.of_term o.1 v, h.good)
 
   -- a kind of the definition is declared where its phyla are
   kind-there : (all : List Phylum) (p : ℕ) (k : Phylum) → slice_get all p ≡ Some k

@@ -1,20 +1,11 @@
 -- Terms and specimens of one definition: their forms, and a specimen of operators alone is written in one way.
-use Rattle.std.proofs.Common.{arith, ◌≡◌, ◌⊎◌, ℕ, ◌+◌, ◌≤◌, max, Bool, true, false, inl, inr, Option, Some, None, List, [], ◌∷◌, ◌++◌, length, slice_get, refl, ap, ap₂, sym, ◌∙◌, subst}
+use Rattle.std.proofs.Common.{◌≡◌, ℕ, ◌+◌, max, inl, inr, List, [], ◌∷◌, ap, ap₂, sym, ◌∙◌, subst}
 use Rattle.std.specs.List.{AllByRecursion}
-use Rattle.psg_terms.proofs.Lists.{each_at, slice_get_once}
+use Rattle.psg_terms.proofs.Lists.{each_at}
 use Rattle.psg_terms.specs.Names.{Name}
 use Rattle.psg_terms.specs.Terms.{Term}
 use Rattle.psg_terms.specs.Terms as terms
 use Rattle.psg_terms.specs.Signature.{Signature, Symbol}
-use Rattle.psg_grammar.specs.declared.types.Kind.{Kind}
-use Rattle.psg_grammar.specs.declared.types.Kind.TheVariants as kinds
-use Rattle.psg_grammar.specs.declared.types.Item.{Item}
-use Rattle.psg_grammar.specs.declared.types.Item.TheVariants as made
-use Rattle.psg_grammar.specs.declared.types.Operator.{Operator}
-use Rattle.psg_grammar.specs.declared.types.SpecimenPart.{SpecimenPart, Sub, Name as NamePart, Number, Text}
-use Rattle.psg_grammar.specs.declared.types.Specimen.{Specimen, Op', List', Hole, Row_of-SpecimenPart, end_of-SpecimenPart, more_of-SpecimenPart}
-use Rattle.psg_grammar.specs.declared.types.Definition.{Definition}
-use Rattle.psg_grammar.specs.Lookups.{part_items}
 use Rattle.psg_grammar.specs.Sound.{IsOwnName as IsTold}
 use Rattle.psg_deflines.specs.WrittenTerms.{WrittenTerm, variable, named, apply, HasTermForm, term_depth}
 use Rattle.psg_defnumber.specs.Numbers.{IsTerm, AreTerms}

@@ -1,0 +1,5 @@
+use Rattle.std.proofs.Common.{◌≡◌, ◌++◌, string_bytes, encode_utf8_all, drop}
+use Rattle.psg_canvas.proofs.pen.push_all.Given as goal
+
+abbrev pub invariant-loop-c : goal.invariant-loop-c
+invariant-loop-c l = string_bytes l.out ++ encode_utf8_all (drop l.c-index l.chars) ≡ string_bytes l.initial.out ++ encode_utf8_all l.chars

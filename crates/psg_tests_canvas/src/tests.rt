@@ -1,0 +1,2 @@
+//! Pictures that were worked out by hand.
+mod drawing;
