@@ -64,8 +64,13 @@ behind-spaces p (q ∷ ps) x (n, rest, a, e, k, w) =
       spaces = n;
       rest = p ++ rest;
       split = e;
-      written = (more.spaces, more.rest, ap (λ t. p ++ t) more.split,
-          subst (λ t. (ends_word p && begins_word t) ≡ false) more.split (apart-of p a rest k), more.written);
+      written = (
+        more.spaces,
+        more.rest,
+        ap (λ t. p ++ t) more.split,
+        subst (λ t. (ends_word p && begins_word t) ≡ false) more.split (apart-of p a rest k),
+        more.written,
+      );
     }
 
 pub laid-written : (p : List ℕ) (ps : List (List ℕ)) (x : List ℕ) → Laid (p ∷ ps) x → (first_byte x ≡ 32 → ⊥) → IsWritten (p ∷ ps) x

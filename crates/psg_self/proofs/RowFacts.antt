@@ -61,9 +61,10 @@ module _ (def : Definition) (Small : ℕ → Type 0) where
 
   row-shallow : (sort : ℕ) (columns : List ℕ) (w : WrittenTerm) (ws : List WrittenTerm) (row : Row) → IsRow def sort columns w ws row
       → Small (term_depth w) → AllByRecursion (λ v. Small (term_depth v)) ws → IsSmallRow Small row
-  row-shallow sort columns w ws row r h k =
-      (subst Small (depth-is def.signature r.names [] sort w row.head r.of_head) h,
-      terms-small Small def.signature r.names columns ws row.columns r.of_columns k)
+  row-shallow sort columns w ws row r h k = (
+    subst Small (depth-is def.signature r.names [] sort w row.head r.of_head) h,
+    terms-small Small def.signature r.names columns ws row.columns r.of_columns k,
+  )
 
   rows-shallow : (sort : ℕ) (columns : List ℕ) (ls : List Line) (rows : List Row) → AreRows def sort columns ls rows
       → AllByRecursion (HasSmall Small) ls → AllByRecursion (IsSmallRow Small) rows
@@ -105,16 +106,19 @@ module _ (def : Definition) (Small : ℕ → Type 0) where
       let both = subst AllRows o.2 a in
       rows-right o.3.sort o.3.columns o.0.rows ls o.1 o.3.each_row both.0 o.4 both.1
   rows-right sort columns rows (lines.Row w ws ∷ ls) all h k o a =
-      let both = subst (AllByRecursion (IsSmallRow Small)) h.2 k in
-      (record {
-        sort = sort;
-        columns = columns;
-        row = h.0;
-        is = h.3;
-        shallow = (subst Small (sym (depth-is def.signature h.3.names [] sort w h.0.head h.3.of_head)) both.0.0,
-            small-terms Small def.signature h.3.names columns ws h.0.columns h.3.of_columns both.0.1);
-      },
-      rows-right sort columns h.1 ls all h.4 both.1 o a)
+      let both = subst (AllByRecursion (IsSmallRow Small)) h.2 k in (
+        record {
+          sort = sort;
+          columns = columns;
+          row = h.0;
+          is = h.3;
+          shallow = (
+            subst Small (sym (depth-is def.signature h.3.names [] sort w h.0.head h.3.of_head)) both.0.0,
+            small-terms Small def.signature h.3.names columns ws h.0.columns h.3.of_columns both.0.1,
+          );
+        },
+        rows-right sort columns h.1 ls all h.4 both.1 o a,
+      )
   rows-right sort columns rows (lines.Sort d ∷ ls) all h k o a = rows-right sort columns rows ls all h k o a
   rows-right sort columns rows (lines.Space n t ∷ ls) all h k o a = rows-right sort columns rows ls all h k o a
   rows-right sort columns rows (lines.Phylum n t b ∷ ls) all h k o a = rows-right sort columns rows ls all h k o a

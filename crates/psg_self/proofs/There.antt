@@ -396,8 +396,11 @@ module _ (once : SpellOnce) (digits : (n : ℕ) → IsRun (decimal n)) where
           high : (d : ℕ) → 128 ≤ d → kind_of_byte d ≡ 2 → ⊥
           high d large k = kind-high d large k
   part-utf8 p (a_sigil g) =
-      subst IsUtf8 (sym g.whole) (ascii-utf8 (g.sigil ∷ g.name) (sign-low g.sigil g.is, word-low g.name
-      (all-weaker _ _ (behind-word g.sigil) g.name g.run)))
+      subst IsUtf8 (sym g.whole) (ascii-utf8 (g.sigil ∷ g.name) (
+        sign-low g.sigil g.is,
+        word-low g.name
+            (all-weaker _ _ (behind-word g.sigil) g.name g.run),
+      ))
   part-utf8 p (a_quoted q) = subst IsUtf8 (sym q.whole) (quoted-utf8 q.contents q.is.utf8)
 
   text-utf8 : (ls : List Line) → AllByRecursion IsOwnLine ls → AllByRecursion HasForm ls → IsUtf8 (fed (map text_of ls))

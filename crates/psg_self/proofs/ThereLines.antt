@@ -78,16 +78,19 @@ module _ (def : Definition) (sound : IsSound def) (no_lists : def.lists ≡ []) 
 
   pub row-form : (Small : ℕ → Type 0) (w : WrittenTerm) (ws : List WrittenTerm) → IsOwnLine (lines.Row w ws) → HasPlainVariables (lines.Row w ws)
       → IsRowLine def Small w ws → HasForm (lines.Row w ws)
-  row-form Small w ws o v r =
-      (term-form def.signature sound.constructor_names r.is.names [] r.sort w r.row.head r.is.of_head o.0 v.0,
-      terms-form def.signature sound.constructor_names r.is.names r.columns ws r.row.columns r.is.of_columns o.1 v.1)
+  row-form Small w ws o v r = (
+    term-form def.signature sound.constructor_names r.is.names [] r.sort w r.row.head r.is.of_head o.0 v.0,
+    terms-form def.signature sound.constructor_names r.is.names r.columns ws r.row.columns r.is.of_columns o.1 v.1,
+  )
 
   pub hole-form : (Small : ℕ → Type 0) (k : Name) (w : WrittenTerm) (tree : WrittenTree) → IsOwnLine (lines.Hole k w (Some tree))
       → HasPlainVariables (lines.Hole k w (Some tree)) → IsHoleLine def Small HasTreeForm k w tree → HasForm (lines.Hole k w (Some tree))
   hole-form Small k w tree o v h =
-      let c = h.is.has_cases in
-      (kind-form k h.row.kind h.is.of_kind,
-      term-form def.signature sound.constructor_names c.3.names [] h.is.sort w c.0.term c.3.of_term o.1 v, h.good)
+      let c = h.is.has_cases in (
+        kind-form k h.row.kind h.is.of_kind,
+        term-form def.signature sound.constructor_names c.3.names [] h.is.sort w c.0.term c.3.of_term o.1 v,
+        h.good,
+      )
 
   -- a kind of the definition is declared where its phyla are
   kind-there : (all : List Phylum) (p : ℕ) (k : Phylum) → slice_get all p ≡ Some k
