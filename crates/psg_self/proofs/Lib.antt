@@ -20,6 +20,7 @@ mod OnlySays
 mod BackWritten
 mod TreesSame
 mod DeclsOnce
+mod NamesFormed
 mod FileShape
 mod RowFacts
 mod KnownLines

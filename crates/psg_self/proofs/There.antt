@@ -12,7 +12,6 @@ use Rattle.psg_grammar.specs.declared.types.ListKind.{ListKind}
 use Rattle.psg_grammar.specs.declared.types.Operator.{Operator}
 use Rattle.psg_grammar.specs.declared.types.Definition.{Definition}
 use Rattle.psg_grammar.specs.Fragments.{Fragment}
-use Rattle.psg_grammar.specs.Sound.{IsSound}
 use Rattle.psg_lexis.specs.Tokens.{quoted}
 use Rattle.psg_deflines.specs.WrittenTerms.{WrittenTerm, most_nested}
 use Rattle.psg_deflines.specs.WrittenTrees.{WrittenTree, HasTreeForm, IsShallowTree, quoted_part}
@@ -44,6 +43,7 @@ use Rattle.psg_self.proofs.LineOnce.{SpellOnce, words-are}
 use Rattle.psg_self.proofs.TextLines.{IsLineText, text_of, texts-again, fed-lines, lines-texts}
 use Rattle.psg_self.proofs.OnlySays.{own-not-skipped, items-no, head-one, entries-formed, text-passed}
 use Rattle.psg_self.proofs.DeclsOnce.{decls-once}
+use Rattle.psg_self.proofs.NamesFormed.{symbols-formed, phyla-formed}
 use Rattle.psg_self.proofs.FileShape.{IsUsual, IsNoList, HasNoNameItems, HasSame, sorts_in, phyla_in, operators_in, rows_in, holes_in, of-sorts, of-phyla, of-operators, of-all, sorts-same, phyla-same, phyla-are, operators-same, same-inhabited, kind-declared-in}
 use Rattle.psg_self.proofs.RowFacts.{HasSmall, operators-shallow, rows-right, holes-good, holes-right, HasGood, HasOwnTree, IsRightRow, IsRightHole}
 use Rattle.psg_self.proofs.KnownLines.{HasOperator, own-no-name, term-known, terms-known, tree-known, sort-line-known, phylum-line-known, operator-line-known, operator-line-entity, row-line-counted, hole-line-counted}
@@ -448,8 +448,8 @@ module _ (file other : List Line) (same : HasSame file other) where
 -- ---- the whole
 
 pub there : SpellOnce → ((n : ℕ) → IsRun (decimal n)) → (f : Fragment) → AllByRecursion IsOwnLine (lines_in f) → (def : Definition)
-    → IsSound def → Says f def → (bytes : List ℕ) → IsReadAs bytes def → IsReadAs (exported f) def
-there once digits f own def sound says bytes read =
+    → Says f def → (bytes : List ℕ) → IsReadAs bytes def → IsReadAs (exported f) def
+there once digits f own def says bytes read =
     let file = lines_in f in
     let s = read.spells in
     let other = written s.entries in
@@ -457,6 +457,8 @@ there once digits f own def sound says bytes read =
     let ready : AreReady [] file = tree-ready f in
     let usual : AllByRecursion IsUsual file = each IsOwnLine IsUsual own-usual-too file own in
     let forms_other : AllByRecursion HasForm other = entries-formed [] (behind_head (texts_of bytes)) s.entries s.spelled.each in
+    let symbols = symbols-formed other def.signature s.numbered.signature forms_other in
+    let phyla = phyla-formed def other def.phyla s.numbered.phyla forms_other in
     let no_lists : AllByRecursion IsNoList file = each IsOwnLine IsNoList own-no_list file own in
     let same : HasSame file other = record {
       sorts = sorts-same file other (decls-once (sort_decls file) (sort_decls other) def.signature says.numbered.signature s.numbered.signature);
@@ -479,8 +481,8 @@ there once digits f own def sound says bytes read =
     of-all HasForm file usual (subst (AllByRecursion HasForm) (sym same.sorts) (of-sorts HasForm other forms_other))
     (subst (AllByRecursion HasForm) (sym same.phyla) (of-phyla HasForm other forms_other))
     (subst (AllByRecursion HasForm) (sym same.operators) (of-operators HasForm other forms_other))
-    (each-row def Any HasForm (row-form def sound says.no_lists Any) file own says.variables any_rows)
-    (each-hole def Any HasForm HasTreeForm (hole-form def sound says.no_lists Any) file own says.variables any_holes) in
+    (each-row def Any HasForm (row-form def symbols phyla says.no_lists Any) file own says.variables any_rows)
+    (each-hole def Any HasForm HasTreeForm (hole-form def symbols phyla says.no_lists Any) file own says.variables any_holes) in
     let head : IsLineText (codes "psg 1") = record { no_feed = (refl, (refl, (refl, (refl, (refl, tt))))); no_return = λ e. omega (arith, e) } in
     let whole : exported f ≡ fed (codes "psg 1" ∷ map text_of file) = ap (λ x. codes "psg 1\n" ++ x) (fed-lines file) in
     let texts : texts_of (exported f) ≡ codes "psg 1" ∷ map text_of file =
@@ -529,7 +531,7 @@ there once digits f own def sound says bytes read =
     )) file own says.variables low_rows)
     (each-hole def IsLow (IsKnown file) (IsFine other) (λ k w tree o v h. (
       ap is_some (kind-declared-in file no_lists k) ∙ ap (λ x. is_some (kind_declared x k)) (phyla-are def file def.phyla says.numbered.phyla)
-          ∙ kind-found def sound says.no_lists k h.row.kind h.is.of_kind,
+          ∙ kind-found def symbols phyla says.no_lists k h.row.kind h.is.of_kind,
       term-known def.signature file says.numbered.signature h.is.has_cases.3.names [] h.is.sort w h.is.has_cases.0.term h.is.has_cases.3.of_term,
       tree-known file other same tree o.2 h.good.0,
     )) file own says.variables fine_holes) in

@@ -16,7 +16,7 @@ use Rattle.psg_grammar.specs.declared.types.Phylum.{Phylum}
 use Rattle.psg_grammar.specs.declared.types.ListKind.{ListKind}
 use Rattle.psg_grammar.specs.declared.types.Definition.{Definition}
 use Rattle.psg_grammar.specs.Fragments.{Fragment}
-use Rattle.psg_grammar.specs.Sound.{IsSound, IsPhylum, IsKindName}
+use Rattle.psg_grammar.specs.Sound.{IsKindName}
 use Rattle.psg_deflines.specs.WrittenTerms.{WrittenTerm}
 use Rattle.psg_deflines.specs.WrittenTrees.{WrittenTree, HasTreeForm}
 use Rattle.psg_deflines.specs.Written.{IsWritten, goes_on_word}
@@ -38,6 +38,7 @@ use Rattle.psg_self.specs.NodeParts.{form_of, elements_at, elements_of}
 use Rattle.psg_self.specs.SelfLines.{lines_by, lines_of, lines_in, row_of, operator_line}
 use Rattle.psg_self.specs.Says.{HasPlainVariables}
 use Rattle.psg_self.proofs.LinesLaid.{IsOwnItem, IsOwnLine}
+use Rattle.psg_self.proofs.NamesFormed.{HaveNames, HaveKindNames}
 use Rattle.psg_self.proofs.FileShape.{rows_in, holes_in}
 use Rattle.psg_self.proofs.RowFacts.{IsRowLine, IsRightRow, IsHoleLine, IsRightHole}
 use Rattle.psg_self.proofs.KnownLines.{HasOperator}
@@ -64,7 +65,8 @@ module _ (def : Definition) (Small : ℕ → Type 0) (P : Line → Type 0) where
 
 -- ---- forms
 
-module _ (def : Definition) (sound : IsSound def) (no_lists : def.lists ≡ []) where
+module _ (def : Definition) (symbols : HaveNames def.signature.symbols) (phyla : HaveKindNames def.phyla)
+    (no_lists : def.lists ≡ []) where
   no-list-kind : (n : Name) (l : ℕ) → IsKind def n (kinds.List l) → ⊥
   no-list-kind n l h = no-at l h.0 (ap (λ xs. slice_get xs l) (sym no_lists) ∙ h.1)
     where
@@ -73,14 +75,14 @@ module _ (def : Definition) (sound : IsSound def) (no_lists : def.lists ≡ []) 
       no-at (suc m) x f = cc
 
   kind-form : (n : Name) (k : Kind) → IsKind def n k → IsKindName n
-  kind-form n (kinds.Phylum p) h = subst IsKindName h.2 (each_at (IsPhylum def) def.phyla sound.phyla p h.0 h.1).name
+  kind-form n (kinds.Phylum p) h = subst IsKindName h.2 (each_at (λ (k : Phylum). IsKindName k.name) def.phyla phyla p h.0 h.1)
   kind-form n (kinds.List l) h = absurd (no-list-kind n l h)
 
   pub row-form : (Small : ℕ → Type 0) (w : WrittenTerm) (ws : List WrittenTerm) → IsOwnLine (lines.Row w ws) → HasPlainVariables (lines.Row w ws)
       → IsRowLine def Small w ws → HasForm (lines.Row w ws)
   row-form Small w ws o v r = (
-    term-form def.signature sound.constructor_names r.is.names [] r.sort w r.row.head r.is.of_head o.0 v.0,
-    terms-form def.signature sound.constructor_names r.is.names r.columns ws r.row.columns r.is.of_columns o.1 v.1,
+    term-form def.signature symbols r.is.names [] r.sort w r.row.head r.is.of_head o.0 v.0,
+    terms-form def.signature symbols r.is.names r.columns ws r.row.columns r.is.of_columns o.1 v.1,
   )
 
   pub hole-form : (Small : ℕ → Type 0) (k : Name) (w : WrittenTerm) (tree : WrittenTree) → IsOwnLine (lines.Hole k w (Some tree))
@@ -88,7 +90,7 @@ module _ (def : Definition) (sound : IsSound def) (no_lists : def.lists ≡ []) 
   hole-form Small k w tree o v h =
       let c = h.is.has_cases in (
         kind-form k h.row.kind h.is.of_kind,
-        term-form def.signature sound.constructor_names c.3.names [] h.is.sort w c.0.term c.3.of_term o.1 v,
+        term-form def.signature symbols c.3.names [] h.is.sort w c.0.term c.3.of_term o.1 v,
         h.good,
       )
 

@@ -3,7 +3,6 @@ ghost use Rattle.std.specs.Prelude.{ℕ, List};
 ghost use Rattle.psg_grammar.specs.declared.types.Definition.{Definition};
 ghost use Rattle.psg_grammar.specs.declared.types.Kind.TheVariants as kinds;
 ghost use Rattle.psg_grammar.specs.Fragments.{Fragment};
-ghost use Rattle.psg_grammar.specs.Sound.{IsSound};
 ghost use Rattle.psg_grammar.specs.WellFormed.{WellFormed, IsComplete};
 ghost use Rattle.psg_defread.specs.Reading.{IsReadAs};
 ghost use Rattle.psg_self.specs.SelfLanguage.{IsSelf};
@@ -21,11 +20,11 @@ pub fn only_says()
     one_line();
 }
 
-/// States that the exported text of a program without placeholders and unfinished lists is read as any sound definition
-/// that the program says, where some bytes spell it without a fault. It does nothing at run time.
+/// States that the exported text of a program without placeholders and unfinished lists is read as any definition that
+/// the program says, where some bytes spell it without a fault. It does nothing at run time.
 pub fn says_is_read()
     ensures { (def : Definition) (f : Fragment) → IsSelf def → WellFormed def f (kinds.List 0) → IsComplete f
-        → (read : Definition) → IsSound read → Says f read
+        → (read : Definition) → Says f read
         → (bytes : List ℕ) → IsReadAs bytes read → IsReadAs (exported f) read }
 {
     one_line();

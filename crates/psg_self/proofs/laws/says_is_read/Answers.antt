@@ -4,6 +4,6 @@ use Rattle.psg_self.proofs.There.{there}
 use Rattle.psg_self.proofs.laws.says_is_read.Goals as goal
 
 pub returns : goal.returns
-returns c = λ def f self formed complete read sound says bytes is.
+returns c = λ def f self formed complete read says bytes is.
     there c.one_line.ensures digits-run f (tree-lines def self f (record { fits = formed.0; plain = formed.1; complete = complete }))
-    read sound says bytes is
+    read says bytes is
