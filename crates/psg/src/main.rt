@@ -28,6 +28,8 @@ const HELP: &str = "psg: editors of small languages, from their definitions
                         has, and writes five lines of the program that it builds: nodes, bytes, weight, menu, mark
   psg layout DEF SCRIPT LAY COLS   runs the script in silence, and writes the program then, arranged for COLS columns,
                         from 1 to 400, by the groups and breaks of the file LAY
+  psg format DEF KIND FILE   writes the program of the file FILE, which is of the kind KIND, as it is to be laid out, or
+                        where it is no program; with --check at the end, in which line it is not laid out so
   psg --help            writes this text
   psg --version         writes the version
 
@@ -61,7 +63,8 @@ Commands of a script, one a line; a path is / or /0/1, or . for the node that wa
   free                  the names that may be declared outside
 
 Exit status: 0 done, 1 the definition is refused, 2 these words have no form, 3 a file or standard input can't be
-read, 4 the output can't be written, 5 out of memory, 6 a file is too long, 7 the layout is refused.
+read, 4 the output can't be written, 5 out of memory, 6 a file is too long, 7 the layout is refused, 8 a line says what
+is wrong with the program.
 ";
 
 /// What `--version` writes.

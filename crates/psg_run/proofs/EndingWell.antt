@@ -1,9 +1,12 @@
 -- A run for which nothing goes wrong outside ends well.
-use Rattle.std.proofs.Common.{◌≡◌, inl, inr, ℕ, ◌<◌, ◌≤◌, ◌⊎◌, List, [], ◌∷◌, ◌++◌, length, Option, Some, IfSome, refl}
+use Rattle.std.proofs.Common.{◌≡◌, inl, inr, ℕ, ◌<◌, ◌≤◌, ◌⊎◌, Bool, true, false, List, [], ◌∷◌, ◌++◌, length, slice_get, Option, Some, IfSome, refl}
 use Rattle.std.proofs.Common.{sym, ◌∙◌, ap, subst, arith}
 use Rattle.std.specs.Prelude.{codes}
 use Rattle.psg_terms.specs.Names.{Name}
 use Rattle.psg_grammar.specs.declared.types.Definition.{Definition}
+use Rattle.psg_grammar.specs.declared.types.Kind.{Kind}
+use Rattle.psg_grammar.specs.Kinds.{kind_name_of}
+use Rattle.psg_program.specs.Formatted.{IsFirstDifference, formatted, pieces}
 use Rattle.psg_specimen.specs.Refusal.{IsAccepted as IsAcceptable}
 use Rattle.psg_specimen.proofs.Stages.{not_both}
 use Rattle.psg_langs.specs.declared.named.TheConstants.{MINI, SELF}
@@ -21,10 +24,13 @@ use Rattle.psg_run.specs.Chain.{IsPlayed, Point, Runs, breaks, closes, goes, is_
 use Rattle.psg_run.specs.Chain.{rests}
 use Rattle.psg_run.specs.Editing.{BreaksOff, Edits, Editor, IsReplied, JustEnds, new_editor}
 use Rattle.psg_run.specs.Exporting.{Exports, GoesOnAsSelf, is_itself, is_other, no_room_to_export, tells_export}
+use Rattle.psg_run.specs.Formatting.{Formats, IsTold, TellsProgram, is_as_it_is_to_be, is_declaring, is_faulty, is_formatted}
+use Rattle.psg_run.specs.Formatting.{is_kind, is_no_program, is_not_formatted, is_unknown, most_program_bytes}
+use Rattle.psg_run.specs.Formatting.{no_room_for_program, tells_program}
 use Rattle.psg_run.specs.Generated.{Generates, no_room_to_tell, tells}
 use Rattle.psg_run.specs.Live.{EndsInput, IsRepliedLive, Talks, is_at_end, is_unread_line, no_room_for_line}
-use Rattle.psg_run.specs.Outputs.{EndsWell, HasDefinition, HasLayout, IsShort, WasRead}
-use Rattle.psg_run.specs.Promise.{check, edit, live, windows, gen, layout, itself}
+use Rattle.psg_run.specs.Outputs.{EndsWell, HasDefinition, HasLayout, HasProgram, IsRight, IsShort, WasRead}
+use Rattle.psg_run.specs.Promise.{check, edit, live, windows, gen, layout, itself, format, check_format}
 use Rattle.psg_run.specs.Reading.{Defines, IsAccepted, IsRefusalLine, Reads, is_accepted, is_long, is_read, is_refused}
 use Rattle.psg_run.specs.Reading.{is_unread, most_definition_bytes, most_script_bytes, no_definition}
 use Rattle.psg_run.specs.Reading.{no_room_for_definition, no_room_for_file, not_accepted}
@@ -56,6 +62,11 @@ known_bytes known held file bytes e are = if_known known held (λ h. bytes ≡ b
 longer : (xs : List ℕ) (x : ℕ) → xs ++ x ∷ [] ≡ xs → ⊥
 longer [] x e = cc
 longer (y ∷ ys) x e = let rest : ys ++ x ∷ [] ≡ ys = cc in longer ys x rest
+
+-- the same text differs nowhere
+no_difference : (bytes wanted : List ℕ) (line : ℕ) (text : List ℕ) → bytes ≡ wanted
+    → IsFirstDifference bytes wanted line text → ⊥
+no_difference bytes wanted line text same d = d.differs (ap (λ b. slice_get (pieces b) d.before) same)
 
 -- ---- endings
 
@@ -226,6 +237,40 @@ module _ (old new : World) (sink : HasRisen old.count new.count → ⊥) where
       reads_well short.held script most_script_bytes (λ bytes. Next (script_lines bytes)) status short.known short.short
       was (λ ended on. next (script_lines (bytes_of short.held script)) ended on) run
 
+  -- ---- a program file
+
+  told_well : (def : Definition) (name program : Name) (bytes : List ℕ) (checks : Bool) → IsRight def name bytes checks
+      → (kind : Kind) → kind_name_of def kind ≡ Some name → (text : List ℕ) (done : Status)
+      → IsTold def program kind bytes checks text done → IsWell done
+  told_well def name program bytes false right kind named text end (is_formatted f read) = inl refl
+  told_well def name program bytes false right kind named text end (is_faulty line column message faulty) =
+      absurd (right.faultless kind named line column message faulty)
+  told_well def name program bytes true right kind named text end (is_as_it_is_to_be f read same) = inl refl
+  told_well def name program bytes true right kind named text end (is_not_formatted f line own read differs) =
+      absurd (no_difference bytes (formatted def f) line own (right.is_formatted refl kind named f read) differs)
+  told_well def name program bytes true right kind named text end (is_no_program line column message faulty) =
+      absurd (right.faultless kind named line column message faulty)
+
+  tells_well : (def : Definition) (name program : Name) (bytes : List ℕ) (checks : Bool) → IsRight def name bytes checks
+      → (kind : Kind) → kind_name_of def kind ≡ Some name → (status : Status)
+      → TellsProgram def bytes (IsTold def program kind bytes checks) old new status → IsWell status
+  tells_well def name program bytes checks right kind named status (tells_program ticks text end counted told puts) =
+      puts_well (told_well def name program bytes checks right kind named text end told) sink puts
+  tells_well def name program bytes checks right kind named status (no_room_for_program ticks counted same) = inr refl
+
+  formats_well : (checks : Bool) (definition name program : Name) (def : Definition)
+      (has : HasProgram old definition name program checks) → IsAccepted (bytes_of has.held definition) def
+      → WasRead old new program → (status : Status) → Formats checks def name program old new status → IsWell status
+  formats_well checks definition name program def has accepted was status (is_kind kind named quiet on) =
+      reads_well has.held program most_program_bytes
+      (λ bytes. TellsProgram def bytes (IsTold def program kind bytes checks)) status has.known has.short was
+      (λ ended told. tells_well def name program (bytes_of has.held program) checks (has.right def accepted) kind named
+      ended told) on
+  formats_well checks definition name program def has accepted was status (is_unknown none puts) =
+      absurd ((has.right def accepted).some_kind none)
+  formats_well checks definition name program def has accepted was status (is_declaring kind named declares puts) =
+      absurd ((has.right def accepted).quiet kind named declares)
+
 -- what is known of the files is one thing
 one_held : (known : Option Held) (one other : Held) → known ≡ Some one → known ≡ Some other → one ≡ other
 one_held known one other e f = let both : Some one ≡ Some other = sym e ∙ f in cc
@@ -248,6 +293,19 @@ module _ (old new : World) (sink : HasRisen old.count new.count → ⊥) where
   arranged_well d s l columns has short lay was_script was_lay status (is_refused line refusal puts) =
       absurd (not_refused (bytes_of has.held d) line has.def has.accepted refusal)
   arranged_well d s l columns has short lay was_script was_lay status (no_room_for_definition same) = inr refl
+
+  -- the definition is one, and the program's file is read
+  formatted_well : (checks : Bool) (d k p : Name) (has : HasDefinition old d) (program : HasProgram old d k p checks)
+      → WasRead old new p → (status : Status)
+      → Defines (bytes_of has.held d) (λ def. Formats checks def k p) old new status → IsWell status
+  formatted_well checks d k p has program was status (is_accepted def accepted on) =
+      let here : IsAccepted (bytes_of program.held d) def =
+      subst (λ (h : Held). IsAccepted (bytes_of h d) def)
+      (one_held old.files.held has.held program.held has.known program.known) accepted in
+      formats_well old new sink checks d k p def program here was status on
+  formatted_well checks d k p has program was status (is_refused line refusal puts) =
+      absurd (not_refused (bytes_of has.held d) line has.def has.accepted refusal)
+  formatted_well checks d k p has program was status (no_room_for_definition same) = inr refl
 
   -- the language is that of definitions, the script's file is read, and the lines are played
   self_well : (s file : Name) (def : Definition) → IsAccepted SELF.now def → IsSelf def → IsShort old s most_script_bytes
@@ -286,3 +344,9 @@ has_ended_well (layout d s l columns) old new status run ((has, was, short, was_
     (λ ended on. arranged_well old new sink d s l columns has short lay was_script was_lay ended on) run
 has_ended_well (itself s file) old new status run ((def, accepted, is), short, was, sink) =
     self_well old new sink s file def accepted is short was status run
+has_ended_well (format d k p) old new status run (has, was, program, was_program, sink) =
+    reads_well old new sink has.held d most_definition_bytes (λ bytes. Defines bytes (λ def. Formats false def k p)) status
+    has.known has.short was (λ ended on. formatted_well old new sink false d k p has program was_program ended on) run
+has_ended_well (check_format d k p) old new status run (has, was, program, was_program, sink) =
+    reads_well old new sink has.held d most_definition_bytes (λ bytes. Defines bytes (λ def. Formats true def k p)) status
+    has.known has.short was (λ ended on. formatted_well old new sink true d k p has program was_program ended on) run

@@ -4,6 +4,8 @@ pub mod WindowLines
 pub mod Labels
 pub mod Replied
 pub mod Onward
+pub mod ProgramFiles
+pub mod FormattedBack
 pub mod Listening
 pub mod PlainLines
 pub mod Telling

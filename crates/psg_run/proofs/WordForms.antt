@@ -1,15 +1,16 @@
 -- The words of a run.
 use Rattle.std.proofs.Common.{◌≡◌, ℕ, ◌<◌, ◌≤◌, List, [], ◌∷◌, length, get_or, true≢false, refl, sym, ap, ap₂, ◌∙◌, subst, arith}
-use Rattle.std.specs.Prelude.{String, bytes_eq, string_bytes, codes, decimal}
+use Rattle.std.specs.Prelude.{Bool, String, bytes_eq, string_bytes, codes, decimal}
 use Rattle.std.proofs.lemmas.Fmt.{decimal_injective}
 use Rattle.psg_script.specs.Reading.{IsNumeralUpTo}
 use Rattle.std.specs.declared.alloc.Global.{Global}
 use Rattle.psg_terms.specs.Names.{Name}
 use Rattle.psg_run.specs.declared.status.Status.{Status}
 use Rattle.psg_run.specs.declared.status.Status.TheVariants as ends_with
+use Rattle.psg_run.specs.Wanted.{formatting}
 use Rattle.psg_run.specs.Worlds.{World, texts_of}
 use Rattle.psg_run.specs.Arranging.{most_columns}
-use Rattle.psg_run.specs.Promise.{Form, check, edit, live, windows, gen, layout, itself, HasNoForm, IsForm, IsRunOf, IsRun}
+use Rattle.psg_run.specs.Promise.{Form, check, edit, live, windows, gen, layout, itself, format, check_format, HasNoForm, IsForm, IsRunOf, IsRun}
 
 pub two_words : (words : List (String Global)) (a b : String Global) → 2 ≤ length words → length words < 3 → a ≡ get_or words 0 a → b ≡ get_or words 1 b
     → texts_of words ≡ string_bytes a ∷ string_bytes b ∷ []
@@ -26,6 +27,18 @@ three_words (x ∷ y ∷ []) a b c more less ea eb ec = absurd (omega (arith, mo
 three_words (x ∷ y ∷ z ∷ []) a b c more less ea eb ec =
     ap₂ (λ p q. string_bytes p ∷ string_bytes q ∷ string_bytes z ∷ []) (sym ea) (sym eb) ∙ ap (λ r. string_bytes a ∷ string_bytes b ∷ string_bytes r ∷ []) (sym ec)
 three_words (x ∷ y ∷ z ∷ w ∷ more_words) a b c more less ea eb ec = absurd (omega (arith, less))
+
+pub four_words : (words : List (String Global)) (a b c d : String Global) → 4 ≤ length words → length words < 5
+    → a ≡ get_or words 0 a → b ≡ get_or words 1 b → c ≡ get_or words 2 c → d ≡ get_or words 3 d
+    → texts_of words ≡ string_bytes a ∷ string_bytes b ∷ string_bytes c ∷ string_bytes d ∷ []
+four_words [] a b c d more less ea eb ec ed = absurd (omega (arith, more))
+four_words (v ∷ []) a b c d more less ea eb ec ed = absurd (omega (arith, more))
+four_words (v ∷ w ∷ []) a b c d more less ea eb ec ed = absurd (omega (arith, more))
+four_words (v ∷ w ∷ x ∷ []) a b c d more less ea eb ec ed = absurd (omega (arith, more))
+four_words (v ∷ w ∷ x ∷ y ∷ []) a b c d more less ea eb ec ed =
+    ap₂ (λ p q. string_bytes p ∷ string_bytes q ∷ string_bytes x ∷ string_bytes y ∷ []) (sym ea) (sym eb)
+    ∙ ap₂ (λ p q. string_bytes a ∷ string_bytes b ∷ string_bytes p ∷ string_bytes q ∷ []) (sym ec) (sym ed)
+four_words (v ∷ w ∷ x ∷ y ∷ z ∷ rest) a b c d more less ea eb ec ed = absurd (omega (arith, less))
 
 pub five_words : (words : List (String Global)) (a b c d e : String Global) → 5 ≤ length words → length words < 6
     → a ≡ get_or words 0 a → b ≡ get_or words 1 b → c ≡ get_or words 2 c → d ≡ get_or words 3 d → e ≡ get_or words 4 e
@@ -63,6 +76,8 @@ two_other a b no_check no_live no_gen (windows d s) e = cc
 two_other a b no_check no_live no_gen (gen n) (e, low, high) = no_gen cc
 two_other a b no_check no_live no_gen (layout d s l n) (e, low, high) = cc
 two_other a b no_check no_live no_gen (itself s f) e = cc
+two_other a b no_check no_live no_gen (format d k f) e = cc
+two_other a b no_check no_live no_gen (check_format d k f) e = cc
 
 -- `gen` and a word that is no number of those for which a script is made
 pub no_number : (a b : Name) → a ≡ codes "gen" → ((n : ℕ) → IsNumeralUpTo 1000 n b → ⊥) → HasNoForm (a ∷ b ∷ [])
@@ -73,6 +88,8 @@ no_number a b is never (live d) e = not_live_gen (sym is ∙ first_is a (codes "
 no_number a b is never (gen n) (e, low, high) = never n ((omega (arith, high), second_is a (codes "gen") b (decimal n) e), low, high)
 no_number a b is never (layout d s l n) (e, low, high) = cc
 no_number a b is never (itself s f) e = cc
+no_number a b is never (format d k f) e = cc
+no_number a b is never (check_format d k f) e = cc
 
 -- `gen` and a number
 pub number_wanted : (a b : Name) (n : ℕ) → a ≡ codes "gen" → IsNumeralUpTo 1000 n b → IsForm (a ∷ b ∷ []) (gen n)
@@ -87,60 +104,107 @@ three_other a b c no_edit no_windows no_self (windows d s) e = no_windows cc
 three_other a b c no_edit no_windows no_self (gen n) (e, low, high) = cc
 three_other a b c no_edit no_windows no_self (layout d s l n) (e, low, high) = cc
 three_other a b c no_edit no_windows no_self (itself s f) e = no_self cc
+three_other a b c no_edit no_windows no_self (format d k f) e = cc
+three_other a b c no_edit no_windows no_self (check_format d k f) e = cc
 
--- five words of which the first is another one, or the last no number of columns
-pub five_other : (a b c d e : Name) → (a ≡ codes "layout" → (n : ℕ) → IsNumeralUpTo most_columns n e → ⊥)
+pub four_other : (a b c d : Name) → (a ≡ codes "format" → ⊥) → HasNoForm (a ∷ b ∷ c ∷ d ∷ [])
+four_other a b c d no_format (check x) e = cc
+four_other a b c d no_format (edit x y) e = cc
+four_other a b c d no_format (live x) e = cc
+four_other a b c d no_format (windows x y) e = cc
+four_other a b c d no_format (gen n) (e, low, high) = cc
+four_other a b c d no_format (layout x y z n) (e, low, high) = cc
+four_other a b c d no_format (itself x y) e = cc
+four_other a b c d no_format (format x k f) e = no_format cc
+four_other a b c d no_format (check_format x k f) e = cc
+
+-- five words of which the first is another one
+pub five_other : (a b c d e : Name) → (a ≡ codes "layout" → ⊥) → (a ≡ codes "format" → ⊥)
     → HasNoForm (a ∷ b ∷ c ∷ d ∷ e ∷ [])
-five_other a b c d e never (check x) p = cc
-five_other a b c d e never (edit x y) p = cc
-five_other a b c d e never (live x) p = cc
-five_other a b c d e never (windows x y) p = cc
-five_other a b c d e never (gen n) (p, low, high) = cc
-five_other a b c d e never (layout x y z n) (p, low, high) =
-    let first : a ≡ codes "layout" = cc in
+five_other a b c d e no_layout no_format (check x) p = cc
+five_other a b c d e no_layout no_format (edit x y) p = cc
+five_other a b c d e no_layout no_format (live x) p = cc
+five_other a b c d e no_layout no_format (windows x y) p = cc
+five_other a b c d e no_layout no_format (gen n) (p, low, high) = cc
+five_other a b c d e no_layout no_format (layout x y z n) (p, low, high) = no_layout cc
+five_other a b c d e no_layout no_format (itself x y) p = cc
+five_other a b c d e no_layout no_format (format x k f) p = cc
+five_other a b c d e no_layout no_format (check_format x k f) p = no_format cc
+
+not_layout : codes "format" ≡ codes "layout" → ⊥
+not_layout e = true≢false (ap (λ w. bytes_eq w (codes "format")) e)
+
+-- `layout` and a word that is no number of columns
+pub no_columns : (a b c d e : Name) → a ≡ codes "layout" → ((n : ℕ) → IsNumeralUpTo most_columns n e → ⊥)
+    → HasNoForm (a ∷ b ∷ c ∷ d ∷ e ∷ [])
+no_columns a b c d e is never (check x) p = cc
+no_columns a b c d e is never (edit x y) p = cc
+no_columns a b c d e is never (live x) p = cc
+no_columns a b c d e is never (windows x y) p = cc
+no_columns a b c d e is never (gen n) (p, low, high) = cc
+no_columns a b c d e is never (layout x y z n) (p, low, high) =
     let last : e ≡ decimal n = cc in
-    never first n ((omega (arith, high), last), low, high)
-five_other a b c d e never (itself x y) p = cc
+    never n ((omega (arith, high), last), low, high)
+no_columns a b c d e is never (itself x y) p = cc
+no_columns a b c d e is never (format x k f) p = cc
+no_columns a b c d e is never (check_format x k f) p = let first : a ≡ codes "format" = cc in not_layout (sym first ∙ is)
+
+-- `format` and another word than `--check`
+pub no_check : (a b c d e : Name) → a ≡ codes "format" → (e ≡ codes "--check" → ⊥) → HasNoForm (a ∷ b ∷ c ∷ d ∷ e ∷ [])
+no_check a b c d e is never (check x) p = cc
+no_check a b c d e is never (edit x y) p = cc
+no_check a b c d e is never (live x) p = cc
+no_check a b c d e is never (windows x y) p = cc
+no_check a b c d e is never (gen n) (p, low, high) = cc
+no_check a b c d e is never (layout x y z n) (p, low, high) = let first : a ≡ codes "layout" = cc in not_layout (sym is ∙ first)
+no_check a b c d e is never (itself x y) p = cc
+no_check a b c d e is never (format x k f) p = cc
+no_check a b c d e is never (check_format x k f) p = never cc
+
+-- `format` and `--check`
+pub check_wanted : (a b c d e : Name) → a ≡ codes "format" → e ≡ codes "--check"
+    → IsForm (a ∷ b ∷ c ∷ d ∷ e ∷ []) (check_format b c d)
+check_wanted a b c d e is last = ap₂ (λ x y. x ∷ b ∷ c ∷ d ∷ y ∷ []) is last
 
 -- `layout` and a number of columns
 pub columns_wanted : (a b c d e : Name) (n : ℕ) → a ≡ codes "layout" → IsNumeralUpTo most_columns n e
     → IsForm (a ∷ b ∷ c ∷ d ∷ e ∷ []) (layout b c d n)
 columns_wanted a b c d e n is (numeral, low, high) = (ap₂ (λ x y. x ∷ b ∷ c ∷ d ∷ y ∷ []) is numeral.1, low, high)
 
--- neither two words nor three nor five
-pub other_count : (words : List (String Global)) → (length words ≡ 2 → ⊥) → (length words ≡ 3 → ⊥) → (length words ≡ 5 → ⊥)
-    → HasNoForm (texts_of words)
-other_count [] two three five (check d) e = cc
-other_count [] two three five (edit d s) e = cc
-other_count [] two three five (live d) e = cc
-other_count [] two three five (windows d s) e = cc
-other_count [] two three five (gen n) (e, low, high) = cc
-other_count [] two three five (layout d s l n) (e, low, high) = cc
-other_count [] two three five (itself s f) e = cc
-other_count (x ∷ []) two three five (check d) e = cc
-other_count (x ∷ []) two three five (edit d s) e = cc
-other_count (x ∷ []) two three five (live d) e = cc
-other_count (x ∷ []) two three five (windows d s) e = cc
-other_count (x ∷ []) two three five (gen n) (e, low, high) = cc
-other_count (x ∷ []) two three five (layout d s l n) (e, low, high) = cc
-other_count (x ∷ []) two three five (itself s f) e = cc
-other_count (x ∷ y ∷ []) two three five form e = absurd (two refl)
-other_count (x ∷ y ∷ z ∷ []) two three five form e = absurd (three refl)
-other_count (x ∷ y ∷ z ∷ w ∷ []) two three five (check d) e = cc
-other_count (x ∷ y ∷ z ∷ w ∷ []) two three five (edit d s) e = cc
-other_count (x ∷ y ∷ z ∷ w ∷ []) two three five (live d) e = cc
-other_count (x ∷ y ∷ z ∷ w ∷ []) two three five (windows d s) e = cc
-other_count (x ∷ y ∷ z ∷ w ∷ []) two three five (gen n) (e, low, high) = cc
-other_count (x ∷ y ∷ z ∷ w ∷ []) two three five (layout d s l n) (e, low, high) = cc
-other_count (x ∷ y ∷ z ∷ w ∷ []) two three five (itself s f) e = cc
-other_count (x ∷ y ∷ z ∷ w ∷ v ∷ []) two three five form e = absurd (five refl)
-other_count (x ∷ y ∷ z ∷ w ∷ v ∷ u ∷ more) two three five (check d) e = cc
-other_count (x ∷ y ∷ z ∷ w ∷ v ∷ u ∷ more) two three five (edit d s) e = cc
-other_count (x ∷ y ∷ z ∷ w ∷ v ∷ u ∷ more) two three five (live d) e = cc
-other_count (x ∷ y ∷ z ∷ w ∷ v ∷ u ∷ more) two three five (windows d s) e = cc
-other_count (x ∷ y ∷ z ∷ w ∷ v ∷ u ∷ more) two three five (gen n) (e, low, high) = cc
-other_count (x ∷ y ∷ z ∷ w ∷ v ∷ u ∷ more) two three five (layout d s l n) (e, low, high) = cc
-other_count (x ∷ y ∷ z ∷ w ∷ v ∷ u ∷ more) two three five (itself s f) e = cc
+-- neither two words nor three nor four nor five
+pub other_count : (words : List (String Global)) → (length words ≡ 2 → ⊥) → (length words ≡ 3 → ⊥)
+    → (length words ≡ 4 → ⊥) → (length words ≡ 5 → ⊥) → HasNoForm (texts_of words)
+other_count [] two three four five (check d) e = cc
+other_count [] two three four five (edit d s) e = cc
+other_count [] two three four five (live d) e = cc
+other_count [] two three four five (windows d s) e = cc
+other_count [] two three four five (gen n) (e, low, high) = cc
+other_count [] two three four five (layout d s l n) (e, low, high) = cc
+other_count [] two three four five (itself s f) e = cc
+other_count [] two three four five (format d k f) e = cc
+other_count [] two three four five (check_format d k f) e = cc
+other_count (x ∷ []) two three four five (check d) e = cc
+other_count (x ∷ []) two three four five (edit d s) e = cc
+other_count (x ∷ []) two three four five (live d) e = cc
+other_count (x ∷ []) two three four five (windows d s) e = cc
+other_count (x ∷ []) two three four five (gen n) (e, low, high) = cc
+other_count (x ∷ []) two three four five (layout d s l n) (e, low, high) = cc
+other_count (x ∷ []) two three four five (itself s f) e = cc
+other_count (x ∷ []) two three four five (format d k f) e = cc
+other_count (x ∷ []) two three four five (check_format d k f) e = cc
+other_count (x ∷ y ∷ []) two three four five form e = absurd (two refl)
+other_count (x ∷ y ∷ z ∷ []) two three four five form e = absurd (three refl)
+other_count (x ∷ y ∷ z ∷ w ∷ []) two three four five form e = absurd (four refl)
+other_count (x ∷ y ∷ z ∷ w ∷ v ∷ []) two three four five form e = absurd (five refl)
+other_count (x ∷ y ∷ z ∷ w ∷ v ∷ u ∷ more) two three four five (check d) e = cc
+other_count (x ∷ y ∷ z ∷ w ∷ v ∷ u ∷ more) two three four five (edit d s) e = cc
+other_count (x ∷ y ∷ z ∷ w ∷ v ∷ u ∷ more) two three four five (live d) e = cc
+other_count (x ∷ y ∷ z ∷ w ∷ v ∷ u ∷ more) two three four five (windows d s) e = cc
+other_count (x ∷ y ∷ z ∷ w ∷ v ∷ u ∷ more) two three four five (gen n) (e, low, high) = cc
+other_count (x ∷ y ∷ z ∷ w ∷ v ∷ u ∷ more) two three four five (layout d s l n) (e, low, high) = cc
+other_count (x ∷ y ∷ z ∷ w ∷ v ∷ u ∷ more) two three four five (itself s f) e = cc
+other_count (x ∷ y ∷ z ∷ w ∷ v ∷ u ∷ more) two three four five (format d k f) e = cc
+other_count (x ∷ y ∷ z ∷ w ∷ v ∷ u ∷ more) two three four five (check_format d k f) e = cc
 
 -- ---- runs
 
@@ -227,6 +291,41 @@ one_form words (itself s f) (gen n) p (q, low, high) = let whole : codes "self" 
 one_form words (itself x f) (layout d s l n) p (q, low, high) = let whole : codes "self" ∷ x ∷ f ∷ [] ≡ codes "layout" ∷ d ∷ s ∷ l ∷ decimal n ∷ [] = sym p ∙ q in cc
 one_form words (itself s f) (itself x y) p q = let whole : codes "self" ∷ s ∷ f ∷ [] ≡ codes "self" ∷ x ∷ y ∷ [] = sym p ∙ q in cc
 one_form words (live d) (live e) p q = let whole : codes "live" ∷ d ∷ [] ≡ codes "live" ∷ e ∷ [] = sym p ∙ q in cc
+one_form words (check d) (format x k y) p q = let whole : codes "check" ∷ d ∷ [] ≡ codes "format" ∷ x ∷ k ∷ y ∷ [] = sym p ∙ q in cc
+one_form words (format x k y) (check d) p q = let whole : codes "format" ∷ x ∷ k ∷ y ∷ [] ≡ codes "check" ∷ d ∷ [] = sym p ∙ q in cc
+one_form words (edit d s) (format x k y) p q = let whole : codes "edit" ∷ d ∷ s ∷ [] ≡ codes "format" ∷ x ∷ k ∷ y ∷ [] = sym p ∙ q in cc
+one_form words (format x k y) (edit d s) p q = let whole : codes "format" ∷ x ∷ k ∷ y ∷ [] ≡ codes "edit" ∷ d ∷ s ∷ [] = sym p ∙ q in cc
+one_form words (live d) (format x k y) p q = let whole : codes "live" ∷ d ∷ [] ≡ codes "format" ∷ x ∷ k ∷ y ∷ [] = sym p ∙ q in cc
+one_form words (format x k y) (live d) p q = let whole : codes "format" ∷ x ∷ k ∷ y ∷ [] ≡ codes "live" ∷ d ∷ [] = sym p ∙ q in cc
+one_form words (windows d s) (format x k y) p q = let whole : codes "windows" ∷ d ∷ s ∷ [] ≡ codes "format" ∷ x ∷ k ∷ y ∷ [] = sym p ∙ q in cc
+one_form words (format x k y) (windows d s) p q = let whole : codes "format" ∷ x ∷ k ∷ y ∷ [] ≡ codes "windows" ∷ d ∷ s ∷ [] = sym p ∙ q in cc
+one_form words (gen n) (format x k y) (p, low, high) q = let whole : codes "gen" ∷ decimal n ∷ [] ≡ codes "format" ∷ x ∷ k ∷ y ∷ [] = sym p ∙ q in cc
+one_form words (format x k y) (gen n) p (q, low, high) = let whole : codes "format" ∷ x ∷ k ∷ y ∷ [] ≡ codes "gen" ∷ decimal n ∷ [] = sym p ∙ q in cc
+one_form words (itself s f) (format x k y) p q = let whole : codes "self" ∷ s ∷ f ∷ [] ≡ codes "format" ∷ x ∷ k ∷ y ∷ [] = sym p ∙ q in cc
+one_form words (format x k y) (itself s f) p q = let whole : codes "format" ∷ x ∷ k ∷ y ∷ [] ≡ codes "self" ∷ s ∷ f ∷ [] = sym p ∙ q in cc
+one_form words (check d) (check_format x k y) p q = let whole : codes "check" ∷ d ∷ [] ≡ codes "format" ∷ x ∷ k ∷ y ∷ codes "--check" ∷ [] = sym p ∙ q in cc
+one_form words (check_format x k y) (check d) p q = let whole : codes "format" ∷ x ∷ k ∷ y ∷ codes "--check" ∷ [] ≡ codes "check" ∷ d ∷ [] = sym p ∙ q in cc
+one_form words (edit d s) (check_format x k y) p q = let whole : codes "edit" ∷ d ∷ s ∷ [] ≡ codes "format" ∷ x ∷ k ∷ y ∷ codes "--check" ∷ [] = sym p ∙ q in cc
+one_form words (check_format x k y) (edit d s) p q = let whole : codes "format" ∷ x ∷ k ∷ y ∷ codes "--check" ∷ [] ≡ codes "edit" ∷ d ∷ s ∷ [] = sym p ∙ q in cc
+one_form words (live d) (check_format x k y) p q = let whole : codes "live" ∷ d ∷ [] ≡ codes "format" ∷ x ∷ k ∷ y ∷ codes "--check" ∷ [] = sym p ∙ q in cc
+one_form words (check_format x k y) (live d) p q = let whole : codes "format" ∷ x ∷ k ∷ y ∷ codes "--check" ∷ [] ≡ codes "live" ∷ d ∷ [] = sym p ∙ q in cc
+one_form words (windows d s) (check_format x k y) p q = let whole : codes "windows" ∷ d ∷ s ∷ [] ≡ codes "format" ∷ x ∷ k ∷ y ∷ codes "--check" ∷ [] = sym p ∙ q in cc
+one_form words (check_format x k y) (windows d s) p q = let whole : codes "format" ∷ x ∷ k ∷ y ∷ codes "--check" ∷ [] ≡ codes "windows" ∷ d ∷ s ∷ [] = sym p ∙ q in cc
+one_form words (gen n) (check_format x k y) (p, low, high) q = let whole : codes "gen" ∷ decimal n ∷ [] ≡ codes "format" ∷ x ∷ k ∷ y ∷ codes "--check" ∷ [] = sym p ∙ q in cc
+one_form words (check_format x k y) (gen n) p (q, low, high) = let whole : codes "format" ∷ x ∷ k ∷ y ∷ codes "--check" ∷ [] ≡ codes "gen" ∷ decimal n ∷ [] = sym p ∙ q in cc
+one_form words (itself s f) (check_format x k y) p q = let whole : codes "self" ∷ s ∷ f ∷ [] ≡ codes "format" ∷ x ∷ k ∷ y ∷ codes "--check" ∷ [] = sym p ∙ q in cc
+one_form words (check_format x k y) (itself s f) p q = let whole : codes "format" ∷ x ∷ k ∷ y ∷ codes "--check" ∷ [] ≡ codes "self" ∷ s ∷ f ∷ [] = sym p ∙ q in cc
+one_form words (layout d s l n) (format x k y) (p, low, high) q = let whole : codes "layout" ∷ d ∷ s ∷ l ∷ decimal n ∷ [] ≡ codes "format" ∷ x ∷ k ∷ y ∷ [] = sym p ∙ q in cc
+one_form words (format x k y) (layout d s l n) p (q, low, high) = let whole : codes "format" ∷ x ∷ k ∷ y ∷ [] ≡ codes "layout" ∷ d ∷ s ∷ l ∷ decimal n ∷ [] = sym p ∙ q in cc
+one_form words (layout d s l n) (check_format x k y) (p, low, high) q =
+    absurd (not_layout (first_is (codes "format") (codes "layout") (x ∷ k ∷ y ∷ codes "--check" ∷ []) (d ∷ s ∷ l ∷ decimal n ∷ []) (sym q ∙ p)))
+one_form words (check_format x k y) (layout d s l n) p (q, low, high) =
+    absurd (not_layout (first_is (codes "format") (codes "layout") (x ∷ k ∷ y ∷ codes "--check" ∷ []) (d ∷ s ∷ l ∷ decimal n ∷ []) (sym p ∙ q)))
+one_form words (format x k y) (check_format d m f) p q = let whole : codes "format" ∷ x ∷ k ∷ y ∷ [] ≡ codes "format" ∷ d ∷ m ∷ f ∷ codes "--check" ∷ [] = sym p ∙ q in cc
+one_form words (check_format d m f) (format x k y) p q = let whole : codes "format" ∷ d ∷ m ∷ f ∷ codes "--check" ∷ [] ≡ codes "format" ∷ x ∷ k ∷ y ∷ [] = sym p ∙ q in cc
+one_form words (format d m f) (format x k y) p q = let whole : codes "format" ∷ d ∷ m ∷ f ∷ [] ≡ codes "format" ∷ x ∷ k ∷ y ∷ [] = sym p ∙ q in cc
+one_form words (check_format d m f) (check_format x k y) p q =
+    let whole : codes "format" ∷ d ∷ m ∷ f ∷ codes "--check" ∷ [] ≡ codes "format" ∷ x ∷ k ∷ y ∷ codes "--check" ∷ [] = sym p ∙ q in cc
 
 module _ (words : List Name) (old new : World) (status : Status) where
   of_form : (form : Form) → IsForm words form → IsRunOf form old new status → IsRun words old new status
@@ -259,6 +358,10 @@ module _ (words : List Name) (old new : World) (status : Status) where
   pub of_itself : (script file : Name) → words ≡ codes "self" ∷ script ∷ file ∷ [] → IsRunOf (itself script file) old new status
       → IsRun words old new status
   of_itself script file is ran = of_form (itself script file) is ran
+
+  pub of_format : (checks : Bool) (definition kind program : Name) → IsForm words (formatting checks definition kind program)
+      → IsRunOf (formatting checks definition kind program) old new status → IsRun words old new status
+  of_format checks definition kind program is ran = of_form (formatting checks definition kind program) is ran
 
   -- words of a form are not of none
   pub has_form : (form : Form) → IsForm words form → HasNoForm words → ⊥

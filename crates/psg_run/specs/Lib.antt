@@ -8,6 +8,7 @@ pub mod Generated
 pub mod Reading
 pub mod Arranging
 pub mod Exporting
+pub mod Formatting
 pub mod Promise
 pub mod Codes
 pub mod Endings
@@ -16,4 +17,5 @@ pub mod Turns
 pub mod Outputs
 pub mod WindowLaws
 pub mod ExportLaws
+pub mod FormatLaws
 pub mod Wanted

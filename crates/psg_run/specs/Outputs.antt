@@ -5,10 +5,16 @@ use Rattle.std.specs.Prelude.{Option, Some, None, codes}
 use Rattle.std.specs.Io.KnownBytes.{append_known}
 use Rattle.psg_terms.specs.Names.{Name}
 use Rattle.psg_grammar.specs.declared.types.Definition.{Definition}
+use Rattle.psg_grammar.specs.declared.types.Kind.{Kind}
+use Rattle.psg_grammar.specs.Fragments.{Fragment}
+use Rattle.psg_grammar.specs.Kinds.{kind_name_of}
 use Rattle.psg_langs.specs.declared.named.TheConstants.{MINI, SELF}
 use Rattle.psg_layout.specs.declared.layout.Layout.{Layout}
 use Rattle.psg_layout.specs.Layouts.{LayoutRefusal}
+use Rattle.psg_program.specs.Formatted.{formatted}
+use Rattle.psg_program.specs.Programs.{IsFaulty, IsProgram}
 use Rattle.psg_self.specs.SelfLanguage.{IsSelf}
+use Rattle.psg_specimen.specs.Languages.{IsDeclaringPhylum}
 use Rattle.psg_unparse.specs.Spaced.{Put, SpacedReadsBack, text_in}
 use Rattle.psg_world.specs.Files.{Held, bytes_of}
 use Rattle.psg_world.specs.Sinks.{HasRisen}
@@ -24,7 +30,8 @@ use Rattle.psg_run.specs.Arranging.{Arranges, most_layout_bytes}
 use Rattle.psg_run.specs.Chain.{Point, Runs, first_point, rests, goes}
 use Rattle.psg_run.specs.Editing.{Editor, IsReplied, new_editor}
 use Rattle.psg_run.specs.Live.{IsRepliedLive, heard, with_input}
-use Rattle.psg_run.specs.Promise.{Form, IsRunOf, check, edit, live, windows, gen, layout, itself}
+use Rattle.psg_run.specs.Formatting.{most_program_bytes}
+use Rattle.psg_run.specs.Promise.{Form, IsRunOf, check, edit, live, windows, gen, layout, itself, format, check_format}
 use Rattle.psg_run.specs.Reading.{IsAccepted, most_definition_bytes, most_script_bytes}
 use Rattle.psg_run.specs.Worlds.{IsFrontOf, World, with_failed_read}
 
@@ -153,6 +160,24 @@ pub record HasLayout (world : World) (definition rules : Name) : Type 0 where
   pub faultless : (def : Definition) → IsAccepted (bytes_of held definition) def
       → (line code : ℕ) → LayoutRefusal def (bytes_of held rules) line code → ⊥
 
+-- The name is that of a kind of which a program may be, and the bytes are a program of it. Where it is asked for, they are
+-- the text that they are to be.
+pub record IsRight (def : Definition) (name : Name) (bytes : List ℕ) (checks : Bool) : Type 0 where
+  pub some_kind : ((kind : Kind) → kind_name_of def kind ≡ Some name → ⊥) → ⊥
+  pub quiet : (kind : Kind) → kind_name_of def kind ≡ Some name → IsDeclaringPhylum def kind → ⊥
+  pub faultless : (kind : Kind) → kind_name_of def kind ≡ Some name → (line column : ℕ) (message : List ℕ)
+      → IsFaulty def kind bytes line column message → ⊥
+  pub is_formatted : checks ≡ true → (kind : Kind) → kind_name_of def kind ≡ Some name → (f : Fragment)
+      → IsProgram def kind bytes f → bytes ≡ formatted def f
+
+-- the file of a program is known, short enough, and right for the definition that the other file holds
+pub record HasProgram (world : World) (definition name program : Name) (checks : Bool) : Type 0 where
+  pub held : Held
+  pub known : world.files.held ≡ Some held
+  pub short : length (bytes_of held program) ≤ most_program_bytes
+  pub right : (def : Definition) → IsAccepted (bytes_of held definition) def
+      → IsRight def name (bytes_of held program) checks
+
 -- The run did not end at its own read of the file. A read by a command may fail.
 abbrev pub WasRead : World → World → Name → Type 0
 WasRead old new file = new ≡ with_failed_read old file → ⊥
@@ -163,8 +188,8 @@ ScriptGoesWell old new definition script =
     HasDefinition old definition × WasRead old new definition × IsShort old script most_script_bytes
     × WasRead old new script
 
--- The definition is accepted, the files are short, a layout has no fault, the run's own reads of them and of the input
--- did not fail, and the sink's count has not risen.
+-- The definition is accepted, the files are short, a layout has no fault, a program is right, the run's own reads of them
+-- and of the input did not fail, and the sink's count has not risen.
 abbrev pub GoesWell : Form → World → World → Type 0
 GoesWell (check d) old new = HasDefinition old d × WasRead old new d × (HasRisen old.count new.count → ⊥)
 GoesWell (edit d s) old new = ScriptGoesWell old new d s × (HasRisen old.count new.count → ⊥)
@@ -178,6 +203,12 @@ GoesWell (layout d s rules columns) old new =
     ScriptGoesWell old new d s × HasLayout old d rules × WasRead old new rules × (HasRisen old.count new.count → ⊥)
 GoesWell (itself s file) old new =
     ((def : Definition) × IsAccepted SELF.now def × IsSelf def) × IsShort old s most_script_bytes × WasRead old new s
+    × (HasRisen old.count new.count → ⊥)
+GoesWell (format d k p) old new =
+    HasDefinition old d × WasRead old new d × HasProgram old d k p false × WasRead old new p
+    × (HasRisen old.count new.count → ⊥)
+GoesWell (check_format d k p) old new =
+    HasDefinition old d × WasRead old new d × HasProgram old d k p true × WasRead old new p
     × (HasRisen old.count new.count → ⊥)
 
 -- Where nothing goes wrong outside, the run ends well, or memory ran out.

@@ -1,8 +1,8 @@
 -- The promise of a run of the program. Reading says what a run reads, Chain how lines are played, Editing and Live what
 -- the plain editor does with them, Windowed what it does for several windows, Generated what `gen` tells, Arranging what
--- `layout` tells, Exporting what `self` does, and Worlds what is outside and what is put. (Playing, Turns and Endings are
+-- `layout` tells, Exporting what `self` does, Formatting what `format` tells, and Worlds what is outside and what is put. (Playing, Turns and Endings are
 -- about the calls of this crate, and Outputs and WindowLaws about its laws.)
-use Rattle.std.specs.Prelude.{ℕ, ◌≡◌, ◌≤◌, List, [], ◌∷◌, codes, decimal}
+use Rattle.std.specs.Prelude.{ℕ, ◌≡◌, ◌≤◌, true, false, List, [], ◌∷◌, codes, decimal}
 use Rattle.psg_langs.specs.declared.named.TheConstants.{MINI, SELF}
 use Rattle.psg_terms.specs.Names.{Name}
 use Rattle.psg_session.specs.Replies.{feed}
@@ -11,6 +11,7 @@ use Rattle.psg_run.specs.declared.status.Status.TheVariants as ends_with
 use Rattle.psg_run.specs.Arranging.{ArrangesBy, most_columns}
 use Rattle.psg_run.specs.Editing.{Edits}
 use Rattle.psg_run.specs.Exporting.{Exports, GoesOnAsSelf}
+use Rattle.psg_run.specs.Formatting.{Formats}
 use Rattle.psg_run.specs.Generated.{Generates}
 use Rattle.psg_run.specs.Live.{Talks}
 use Rattle.psg_run.specs.Reading.{Defines, OnDefinition, Reads, most_script_bytes}
@@ -18,7 +19,8 @@ use Rattle.psg_run.specs.Scripts.{script_lines}
 use Rattle.psg_run.specs.Windowed.{PlaysWindows}
 use Rattle.psg_run.specs.Worlds.{Act, Puts, World}
 
--- What the words ask for. `rules` is the file of a layout, and `file` the one that is written.
+-- What the words ask for. `rules` is the file of a layout, `file` the one that is written, and `program` that of a
+-- program.
 pub data Form : Type 0 where
   check : (definition : Name) → Form
   edit : (definition script : Name) → Form
@@ -27,6 +29,8 @@ pub data Form : Type 0 where
   gen : (number : ℕ) → Form
   layout : (definition script rules : Name) (columns : ℕ) → Form
   itself : (script file : Name) → Form
+  format : (definition kind program : Name) → Form
+  check_format : (definition kind program : Name) → Form
 
 -- the words after the program's name have this form
 abbrev pub IsForm : List Name → Form → Type 0
@@ -39,6 +43,9 @@ IsForm words (layout definition script rules columns) =
     (words ≡ codes "layout" ∷ definition ∷ script ∷ rules ∷ decimal columns ∷ [])
     × (1 ≤ columns) × (columns ≤ most_columns)
 IsForm words (itself script file) = words ≡ codes "self" ∷ script ∷ file ∷ []
+IsForm words (format definition kind program) = words ≡ codes "format" ∷ definition ∷ kind ∷ program ∷ []
+IsForm words (check_format definition kind program) =
+    words ≡ codes "format" ∷ definition ∷ kind ∷ program ∷ codes "--check" ∷ []
 
 -- the words have none of the forms
 abbrev pub HasNoForm : List Name → Type 0
@@ -59,6 +66,8 @@ IsRunOf (layout definition script rules columns) =
 IsRunOf (itself script file) =
     Defines SELF.now
     (λ def. GoesOnAsSelf def (Reads script most_script_bytes (λ bytes. Exports def file (script_lines bytes))))
+IsRunOf (format definition kind program) = OnDefinition definition (λ def. Formats false def kind program)
+IsRunOf (check_format definition kind program) = OnDefinition definition (λ def. Formats true def kind program)
 
 -- A run does what the words ask for. Words of no form have their status, and nothing else happens.
 pub record IsRun (words : List Name) (old new : World) (status : Status) : Type 0 where

@@ -1,9 +1,14 @@
 -- What the program's reader of words finds.
-use Rattle.std.specs.Prelude.{List}
+use Rattle.std.specs.Prelude.{Bool, true, false, List}
 use Rattle.psg_terms.specs.Names.{Name}
 use Rattle.psg_run.specs.declared.words.Form.{Form as Found}
-use Rattle.psg_run.specs.declared.words.Form.TheVariants.{Check, Edit, Live, Windows, Gen, Layout, Itself}
-use Rattle.psg_run.specs.Promise.{Form, check, edit, live, windows, gen, layout, itself, IsForm}
+use Rattle.psg_run.specs.declared.words.Form.TheVariants.{Check, Edit, Live, Windows, Gen, Layout, Itself, Format}
+use Rattle.psg_run.specs.Promise.{Form, check, edit, live, windows, gen, layout, itself, format, check_format, IsForm}
+
+-- `format`, with the word `--check` or without
+abbrev pub formatting : Bool → Name → Name → Name → Form
+formatting false definition kind program = format definition kind program
+formatting true definition kind program = check_format definition kind program
 
 -- the form that the program's form is
 abbrev pub form_told : Found → Form
@@ -14,6 +19,7 @@ form_told (Windows definition script) = windows definition.now script.now
 form_told (Gen number) = gen number
 form_told (Layout definition script rules columns) = layout definition.now script.now rules.now columns
 form_told (Itself script file) = itself script.now file.now
+form_told (Format definition kind program checks) = formatting checks definition.now kind.now program.now
 
 -- what was found is the form that the words have
 abbrev pub IsWanted : List Name → Found → Type 0

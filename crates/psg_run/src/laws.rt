@@ -7,6 +7,7 @@ ghost use Rattle.psg_grammar.specs.WellFormed.{fixed_words};
 ghost use Rattle.psg_grammar.specs.declared.types.Definition.{Definition as Plain};
 ghost use Rattle.psg_lexis.specs.Tokens.{IsFixedWord};
 ghost use Rattle.psg_run.specs.ExportLaws.{WritesNoOther};
+ghost use Rattle.psg_run.specs.FormatLaws.{FormatsOnce};
 ghost use Rattle.psg_run.specs.Outputs.{ArrangedReadsBack, EndsWell, HasOneOutput, HasOneRun, HasSomeOutput};
 ghost use Rattle.psg_run.specs.Outputs.{KeepsForms, LeavesFiles, RepliesAlike};
 ghost use Rattle.psg_run.specs.Reading.{IsAccepted as IsAcceptedText, IsRefusalLine};
@@ -126,4 +127,13 @@ pub fn some_window_output(definition: &Definition)
     requires words { AllByRecursion IsFixedWord (fixed_words definition.now) }
     requires accepted { IsAccepted definition.now }
     ensures { HasSomeWindowOutput definition.now }
+{}
+
+/// States that what `format` writes of a program file is that program again, and is as it is to be itself. So nothing is
+/// lost, and to format twice is to format once. The call has no cost.
+pub fn formats_once(definition: &Definition)
+    requires sound { IsSound definition.now }
+    requires words { AllByRecursion IsFixedWord (fixed_words definition.now) }
+    requires accepted { IsAccepted definition.now }
+    ensures { FormatsOnce definition.now }
 {}

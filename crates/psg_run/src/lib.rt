@@ -6,11 +6,12 @@
 //! `windows DEF SCRIPT` each line of the script is for one of eight windows, which have a cursor each. For `gen N` it
 //! says how large a program is that it makes. For `layout DEF SCRIPT LAY COLS` it writes the program of the script,
 //! arranged by the layout for so many columns. For `self SCRIPT OUT` it writes the definition that the script builds to a
-//! file.
+//! file. For `format DEF KIND FILE` it writes the text that a program file is to have.
 #![tactic(auto)]
 
 mod arranging;
 mod exporting;
+mod formatting;
 mod generating;
 pub mod laws;
 pub mod limits;

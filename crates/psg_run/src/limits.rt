@@ -17,3 +17,6 @@ pub const MOST_LAYOUT_BYTES: usize = 65_536;
 
 /// The greatest number of columns for which `layout` arranges a program.
 pub const MOST_COLUMNS: u32 = 400;
+
+/// The most bytes of a program file.
+pub const MOST_PROGRAM_BYTES: usize = 4_194_304;

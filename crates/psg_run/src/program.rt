@@ -12,6 +12,7 @@ ghost use Rattle.psg_run.specs.Worlds.{Incoming, coming, seen, texts_of};
 
 use crate::arranging::arrange_by;
 use crate::exporting::export_self;
+use crate::formatting::format_file;
 use crate::generating::generate;
 use crate::limits::MOST_SCRIPT_BYTES;
 use crate::live::talk;
@@ -227,7 +228,8 @@ fn layout<F: Files, O: Sink, L: Ledger>(
 /// then. `layout DEF SCRIPT LAY COLS` plays a script as `edit` does, but in silence. Then it writes the opened program,
 /// arranged by the file LAY for COLS columns, from 1 to 400, or `none` if nothing is opened. `self SCRIPT OUT` plays a
 /// script in silence on the language of definitions, writes the definition that is opened then to the file OUT, and says
-/// whether it is accepted. `steps` counts evaluations of nodes and list suffixes: a command evaluates what is new and
+/// whether it is accepted. `format DEF KIND FILE` writes the text that the file FILE is to have, which has a program of
+/// the kind KIND, and `format DEF KIND FILE --check` says in which line it does not have it first. `steps` counts evaluations of nodes and list suffixes: a command evaluates what is new and
 /// what is above it.
 pub fn run<F: Files, I: Input, O: Sink, L: Ledger>(
     alloc: Global,
@@ -267,6 +269,14 @@ pub fn run<F: Files, I: Input, O: Sink, L: Ledger>(
             },
         ) => { layout(alloc, definition, script, rules, columns, files, out, steps) }
         Some(Form::Itself { script, file }) => export_self(alloc, script, file, files, out, steps),
+        Some(
+            Form::Format {
+                definition,
+                kind,
+                program,
+                checks,
+            },
+        ) => { format_file(alloc, definition, kind, program, checks, files, out, steps) }
         None => Status::Words,
     }
 }

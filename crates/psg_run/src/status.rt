@@ -12,21 +12,24 @@ pub enum Status {
     DefinitionRefused,
     /// The words have none of the forms; nothing was read or written.
     Words,
-    /// A read of the definition, of the script or of the layout failed, and nothing was written; or one of the input
+    /// A read of the definition, of the script, of the layout or of the program failed, and nothing was written; or one of the input
     /// failed, and the replies to the lines before were written.
     ReadFault,
     /// A write of the output failed; a front of the output was written, and not all of it.
     WriteFault,
     /// There was no memory left; a front of the output was written, which may be empty.
     Memory,
-    /// The definition, the script or the layout is too long; nothing was written.
+    /// The definition, the script, the layout or the program is too long; nothing was written.
     TooLong,
     /// The bytes of the layout are no layout, and the line that says so was written.
     LayoutRefused,
+    /// The program is wrong, or its text is not the one that it is to have, or it is of no kind that a program may be,
+    /// and the line that says so was written.
+    Wrong,
 }
 
 impl Status {
-    /// Returns the exit status of the process, from 0 to 7.
+    /// Returns the exit status of the process, from 0 to 8.
     pub fn code(self) -> u8
         ensures { result ≡ code_of self }
     {
@@ -39,6 +42,7 @@ impl Status {
             Status::Memory => 5,
             Status::TooLong => 6,
             Status::LayoutRefused => 7,
+            Status::Wrong => 8,
         }
     }
 }

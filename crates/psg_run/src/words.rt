@@ -45,6 +45,13 @@ pub enum Form<'a> {
         script: &'a str,
         file: &'a str,
     },
+    /// `format DEF KIND FILE`, and where it only checks `format DEF KIND FILE --check`
+    Format {
+        definition: &'a str,
+        kind: &'a str,
+        program: &'a str,
+        checks: bool,
+    },
 }
 
 /// What `gen` asks for with this word.
@@ -99,25 +106,83 @@ fn of_three<'a>(form: &str, first: &'a str, second: &'a str) -> Option<Form<'a>>
     }
 }
 
-/// What five words ask for.
-fn of_five<'a>(
-    form: &str,
+/// What four words ask for.
+fn of_four<'a>(form: &str, definition: &'a str, kind: &'a str, program: &'a str) -> Option<Form<'a>>
+    ensures { MatchOption result (HasNoForm (form.now ∷ definition.now ∷ kind.now ∷ program.now ∷ []))
+        (IsWanted (form.now ∷ definition.now ∷ kind.now ∷ program.now ∷ [])) }
+{
+    if form == "format" {
+        Some(Form::Format {
+            definition,
+            kind,
+            program,
+            checks: false,
+        })
+    } else {
+        None
+    }
+}
+
+/// What `format` asks for with a word after the file.
+fn of_check<'a>(
+    definition: &'a str,
+    kind: &'a str,
+    program: &'a str,
+    last: &str,
+) -> Option<Form<'a>>
+    ensures { (form : Name) → form ≡ codes "format"
+        → MatchOption result (HasNoForm (form ∷ definition.now ∷ kind.now ∷ program.now ∷ last.now ∷ []))
+        (IsWanted (form ∷ definition.now ∷ kind.now ∷ program.now ∷ last.now ∷ [])) }
+{
+    if last == "--check" {
+        Some(Form::Format {
+            definition,
+            kind,
+            program,
+            checks: true,
+        })
+    } else {
+        None
+    }
+}
+
+/// What `layout` asks for with these words.
+fn of_columns<'a>(
     definition: &'a str,
     script: &'a str,
     rules: &'a str,
     columns: &str,
 ) -> Option<Form<'a>>
-    ensures { MatchOption result (HasNoForm (form.now ∷ definition.now ∷ script.now ∷ rules.now ∷ columns.now ∷ []))
-        (IsWanted (form.now ∷ definition.now ∷ script.now ∷ rules.now ∷ columns.now ∷ [])) }
+    ensures { (form : Name) → form ≡ codes "layout"
+        → MatchOption result (HasNoForm (form ∷ definition.now ∷ script.now ∷ rules.now ∷ columns.now ∷ []))
+        (IsWanted (form ∷ definition.now ∷ script.now ∷ rules.now ∷ columns.now ∷ [])) }
 {
-    if form == "layout" {
-        let columns = read_up_to(MOST_COLUMNS, columns)?;
-        Some(Form::Layout {
+    match read_up_to(MOST_COLUMNS, columns) {
+        Some(columns) => Some(Form::Layout {
             definition,
             script,
             rules,
             columns,
-        })
+        }),
+        None => None,
+    }
+}
+
+/// What five words ask for.
+fn of_five<'a>(
+    form: &str,
+    first: &'a str,
+    second: &'a str,
+    third: &'a str,
+    last: &str,
+) -> Option<Form<'a>>
+    ensures { MatchOption result (HasNoForm (form.now ∷ first.now ∷ second.now ∷ third.now ∷ last.now ∷ []))
+        (IsWanted (form.now ∷ first.now ∷ second.now ∷ third.now ∷ last.now ∷ [])) }
+{
+    if form == "layout" {
+        of_columns(first, second, third, last)
+    } else if form == "format" {
+        of_check(first, second, third, last)
     } else {
         None
     }
@@ -132,12 +197,18 @@ pub fn form_of(words: &[String]) -> Option<Form<'_>>
         [form, definition, script] => {
             of_three(form.as_str(), definition.as_str(), script.as_str())
         }
-        [form, definition, script, rules, columns] => of_five(
+        [form, first, second, third] => of_four(
             form.as_str(),
-            definition.as_str(),
-            script.as_str(),
-            rules.as_str(),
-            columns.as_str(),
+            first.as_str(),
+            second.as_str(),
+            third.as_str(),
+        ),
+        [form, first, second, third, last] => of_five(
+            form.as_str(),
+            first.as_str(),
+            second.as_str(),
+            third.as_str(),
+            last.as_str(),
         ),
         _ => None,
     }

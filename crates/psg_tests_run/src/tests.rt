@@ -4,6 +4,7 @@ ghost use Rattle.std.specs.Prelude.{◌≡◌, ◌<◌};
 mod arranged;
 mod exported;
 mod failures;
+mod formatted;
 mod generated;
 mod kept;
 mod limits;

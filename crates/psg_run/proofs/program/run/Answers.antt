@@ -1,8 +1,9 @@
 use Rattle.std.proofs.Common.{◌≡◌, [], ◌∷◌}
 use Rattle.std.specs.Prelude.{codes}
 use Rattle.psg_run.specs.Promise.{check, edit, gen, itself, layout, live, windows}
+use Rattle.psg_run.specs.Wanted.{formatting}
 use Rattle.psg_run.specs.Worlds.{coming, seen, texts_of}
-use Rattle.psg_run.proofs.WordForms.{has_form, of_check, of_edit, of_gen, of_itself, of_layout, of_live, of_windows}
+use Rattle.psg_run.proofs.WordForms.{has_form, of_check, of_edit, of_format, of_gen, of_itself, of_layout, of_live, of_windows}
 use Rattle.psg_run.proofs.program.run.Goals as goal
 
 pub returns-in-Some-Check : goal.returns-in-Some-Check
@@ -79,4 +80,14 @@ returns-in-Some-Itself g c =
           (seen (g.F.Files.holds c.export_self.new.files) (g.F.Files.faults c.export_self.new.files) (coming (g.I.Input.lines c.args.input.now) (g.I.Input.given c.args.input.now) (g.I.Input.missed c.args.input.now)) c.export_self.new.steps (g.O.Sink.written c.export_self.new.out) (g.O.Sink.faults c.export_self.new.out))
           c.export_self.result c.in-Some-Itself.script.now c.in-Some-Itself.file.now wanted (c.export_self.ensures (coming (g.I.Input.lines c.args.input.now) (g.I.Input.given c.args.input.now) (g.I.Input.missed c.args.input.now)));
       untouched = λ none. absurd (has_form (texts_of c.args.words.now) (seen (g.F.Files.holds c.args.files.now) (g.F.Files.faults c.args.files.now) (coming (g.I.Input.lines c.args.input.now) (g.I.Input.given c.args.input.now) (g.I.Input.missed c.args.input.now)) c.args.steps.now (g.O.Sink.written c.args.out.now) (g.O.Sink.faults c.args.out.now)) (seen (g.F.Files.holds c.args.files.now) (g.F.Files.faults c.args.files.now) (coming (g.I.Input.lines c.args.input.now) (g.I.Input.given c.args.input.now) (g.I.Input.missed c.args.input.now)) c.args.steps.now (g.O.Sink.written c.args.out.now) (g.O.Sink.faults c.args.out.now)) c.export_self.result (itself c.in-Some-Itself.script.now c.in-Some-Itself.file.now) wanted none);
+    }
+
+pub returns-in-Some-Format : goal.returns-in-Some-Format
+returns-in-Some-Format g c =
+    let wanted = rw c.in-Some-Format.field-0-is at c.in-Some-Format.ensures in
+    record {
+      run = of_format (texts_of c.args.words.now) (seen (g.F.Files.holds c.args.files.now) (g.F.Files.faults c.args.files.now) (coming (g.I.Input.lines c.args.input.now) (g.I.Input.given c.args.input.now) (g.I.Input.missed c.args.input.now)) c.args.steps.now (g.O.Sink.written c.args.out.now) (g.O.Sink.faults c.args.out.now))
+          (seen (g.F.Files.holds c.format_file.new.files) (g.F.Files.faults c.format_file.new.files) (coming (g.I.Input.lines c.args.input.now) (g.I.Input.given c.args.input.now) (g.I.Input.missed c.args.input.now)) c.format_file.new.steps (g.O.Sink.written c.format_file.new.out) (g.O.Sink.faults c.format_file.new.out))
+          c.format_file.result c.in-Some-Format.checks c.in-Some-Format.definition.now c.in-Some-Format.kind.now c.in-Some-Format.program.now wanted (c.format_file.ensures (coming (g.I.Input.lines c.args.input.now) (g.I.Input.given c.args.input.now) (g.I.Input.missed c.args.input.now)));
+      untouched = λ none. absurd (has_form (texts_of c.args.words.now) (seen (g.F.Files.holds c.args.files.now) (g.F.Files.faults c.args.files.now) (coming (g.I.Input.lines c.args.input.now) (g.I.Input.given c.args.input.now) (g.I.Input.missed c.args.input.now)) c.args.steps.now (g.O.Sink.written c.args.out.now) (g.O.Sink.faults c.args.out.now)) (seen (g.F.Files.holds c.args.files.now) (g.F.Files.faults c.args.files.now) (coming (g.I.Input.lines c.args.input.now) (g.I.Input.given c.args.input.now) (g.I.Input.missed c.args.input.now)) c.args.steps.now (g.O.Sink.written c.args.out.now) (g.O.Sink.faults c.args.out.now)) c.format_file.result (formatting c.in-Some-Format.checks c.in-Some-Format.definition.now c.in-Some-Format.kind.now c.in-Some-Format.program.now) wanted none);
     }

@@ -1,0 +1,8 @@
+pub mod Columns
+pub mod Sorting
+pub mod Feeds
+pub mod SamePieces
+pub mod Told
+pub mod TokenBytes
+pub mod Accepted
+pub mod Reasons

@@ -1,0 +1,7 @@
+pub mod Places
+pub mod Decoding
+pub mod Expected
+pub mod Messages
+pub mod Programs
+pub mod Formatted
+pub mod Compared
