@@ -22,10 +22,10 @@ use Rattle.psg_run.proofs.GenFiles.{front_leaves, puts_leaves}
 holds_as : {before after : Outside} → after ≡ before → after.held ≡ before.held
 holds_as same = ap (λ (x : Outside). x.held) same
 
-others_then : {file : Name} {before middle after : Outside} → HoldsOthers file before middle → after ≡ middle
+others_then : (file : Name) (before middle after : Outside) → HoldsOthers file before middle → after ≡ middle
     → HoldsOthers file before after
-others_then (inl held) same = inl (holds_as same ∙ held)
-others_then (inr (bytes, held)) same = inr (bytes, holds_as same ∙ held)
+others_then file before middle after (inl held) same = inl (holds_as same ∙ held)
+others_then file before middle after (inr (bytes, held)) same = inr (bytes, holds_as same ∙ held)
 
 -- ---- what the close of a run asks
 
@@ -61,7 +61,7 @@ module _ (def : Definition) (accepted : IsAccepted SELF.now def) (script file : 
       → Runs Editor (IsSilent def) (first_point Editor new_editor old) played texts last
       → Finishes Editor (IsSilent def) (BreaksOff def) (TellsExport def file) old texts last left new status
       → HoldsOthersSince script file old new
-  ended played left texts last split runs (closes t text done tells puts) = record {
+  ended played left texts last split runs (closes t text close tells puts) = record {
     def = def;
     accepted = accepted;
     bytes = bytes;
@@ -72,7 +72,7 @@ module _ (def : Definition) (accepted : IsAccepted SELF.now def) (script file : 
     texts = texts;
     last = last;
     runs = runs;
-    others = others_then (tells_holds tells) (puts_leaves puts);
+    others = others_then file last.files t.files new.files (tells_holds tells) (puts_leaves puts);
   }
   ended played left texts last split runs (puts_front {line = line} {rest = rest} t text plays front) = record {
     def = def;
