@@ -275,6 +275,7 @@ fn nothing_ends_where_the_token_before_does(rt: HostRuntime) -> Result<(), Fail>
     let definition = mini(rt.alloc())?;
     let tokens = tokens(rt.alloc(), &definition, "(a)  + b")?;
     for (number, byte) in [(0, 0), (1, 1), (3, 3), (4, 6), (5, 8)] {
+        assert!(rt; number <= tokens.len());
         assert_eq!(rt; byte_of_end(tokens.as_slice(), number), byte);
     }
     Ok(())
