@@ -25,18 +25,18 @@ use Rattle.psg_places.proofs.BlameLaws.{grown, same_up_to}
 
 -- ---- what is kept by a list of answers
 
-past : (xs : List Bool) (n : ℕ) → length xs ≤ n → kept_in xs n ≡ false
+pub past : (xs : List Bool) (n : ℕ) → length xs ≤ n → kept_in xs n ≡ false
 past [] zero le = refl
 past [] (suc n) le = refl
 past (x ∷ xs) zero le = absurd (omega (arith, le))
 past (x ∷ xs) (suc n) le = past xs n (omega (arith, le))
 
-kept_front : (xs ys : List Bool) (n : ℕ) → n < length xs → kept_in (xs ++ ys) n ≡ kept_in xs n
+pub kept_front : (xs ys : List Bool) (n : ℕ) → n < length xs → kept_in (xs ++ ys) n ≡ kept_in xs n
 kept_front xs ys n lt =
     let (b, at) = slice_get_some xs n lt in
     ap is_some_true (slice_get-front xs ys n b at) ∙ sym (ap is_some_true at)
 
-kept_end : (xs : List Bool) (b : Bool) → kept_in (xs ++ b ∷ []) (length xs) ≡ b
+pub kept_end : (xs : List Bool) (b : Bool) → kept_in (xs ++ b ∷ []) (length xs) ≡ b
 kept_end xs b = ap is_some_true (slice_get-end xs b)
 
 next_at : (xs : List Bool) (m : ℕ) → kept_in (xs ++ true ∷ []) m ≡ up_to (kept_in xs) (length xs) m

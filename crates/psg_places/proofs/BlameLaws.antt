@@ -43,7 +43,7 @@ kept_at kept n m e = elim (cases_lt m n) [
 ]
 
 -- with n not kept, they are those kept before
-passed_at : (kept : ℕ → Bool) (n m : ℕ) → kept n ≡ false → kept_of_first kept n m ≡ kept_of_first kept (suc n) m
+pub passed_at : (kept : ℕ → Bool) (n m : ℕ) → kept n ≡ false → kept_of_first kept n m ≡ kept_of_first kept (suc n) m
 passed_at kept n m e = elim (cases_lt m n) [
   | inl below ↦ subst (λ b. (b && kept m) ≡ (nat_lt m (suc n) && kept m)) (sym (lt-ltb m n below))
       (subst (λ b. kept m ≡ (b && kept m)) (sym (lt-ltb m (suc n) (omega (arith, below)))) refl)
@@ -87,12 +87,12 @@ module _ (def : Definition) (fresh : ℕ → Name) (f : Fragment) (IsGood : Frag
   pub leaves : Leaves IsGood def f fresh
   leaves start kept a = grown (place_count def f) kept a start (place_count def f) (omega arith)
 
-  kept_before : IsFalling IsGood def f fresh → IsGood f → (kept : ℕ → Bool) → IsBlameBy IsGood def fresh f kept
-      → (n : ℕ) → n ≤ place_count def f → (m : ℕ) → m < n → kept m ≡ true
-  kept_before falls good kept a zero le m lt = absurd (omega (arith, lt))
-  kept_before falls good kept a (suc n) le m lt =
-      let inside : n < place_count def f = omega (arith, le) in
-      let h = kept_before falls good kept a n (omega (arith, le)) in
+  pub kept_before : IsFalling IsGood def f fresh → IsGood f → (most : ℕ) (kept : ℕ → Bool)
+      → IsBlameUpTo IsGood def fresh f most kept → (n : ℕ) → n ≤ most → (m : ℕ) → m < n → kept m ≡ true
+  kept_before falls good most kept a zero le m lt = absurd (omega (arith, lt))
+  kept_before falls good most kept a (suc n) le m lt =
+      let inside : n < most = omega (arith, le) in
+      let h = kept_before falls good most kept a n (omega (arith, le)) in
       elim (cases_lt m n) [
         | inl below ↦ h m below
         | inr above ↦ subst (λ k. kept k ≡ true) (same_number n m lt above) ((a n inside).1
@@ -102,7 +102,7 @@ module _ (def : Definition) (fresh : ℕ → Name) (f : Fragment) (IsGood : Frag
       ]
 
   pub keeps_all : KeepsAll IsGood def f fresh
-  keeps_all falls good kept a n lt = kept_before falls good kept a (place_count def f) (omega arith) n lt
+  keeps_all falls good kept a n lt = kept_before falls good (place_count def f) kept a (place_count def f) (omega arith) n lt
 
   pub needed : IsNeeded IsGood def f fresh
   needed kept a n lt lost good = true≢false (sym ((a n lt).1 good) ∙ lost)

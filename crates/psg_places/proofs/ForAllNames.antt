@@ -31,7 +31,7 @@ use Rattle.psg_places.proofs.Whole.{whole}
 
 -- ---- the names of the first places
 
-abbrev firsts : (ℕ → Name) → ℕ → List Name
+abbrev pub firsts : (ℕ → Name) → ℕ → List Name
 firsts fresh zero = []
 firsts fresh (suc n) = fresh n ∷ firsts fresh n
 
@@ -180,10 +180,10 @@ module _ (def : Definition) (p : Permutation) (keep : ℕ → Bool) (one two : �
       child_turned 0 f _ _ _ _ h (turns 0 (declared_count def f) f h) (turns 1 (1 + declared_count def f) f h)
 
 -- the name where the number is one of a place, and else the other
-abbrev within : ℕ → (ℕ → Name) → Name → ℕ → Name
+abbrev pub within : ℕ → (ℕ → Name) → Name → ℕ → Name
 within most fresh other n = cond (nat_lt n most) (fresh n) other
 
-within_is : (most : ℕ) (fresh : ℕ → Name) (other : Name) (n : ℕ) → n < most → fresh n ≡ within most fresh other n
+pub within_is : (most : ℕ) (fresh : ℕ → Name) (other : Name) (n : ℕ) → n < most → fresh n ≡ within most fresh other n
 within_is most fresh other n lt = ap (λ b. cond b (fresh n) other) (sym (lt-ltb n most lt))
 
 module _ (def : Definition) (f : Fragment) where

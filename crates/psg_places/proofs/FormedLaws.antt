@@ -19,7 +19,7 @@ use Rattle.psg_places.specs.Places.{declared_count, content_count, element_size,
 use Rattle.psg_places.specs.Opened.{contents, name_or_fresh, opened, opened_child, opened_element}
 use Rattle.psg_places.proofs.SpaceLaws.{quiet}
 
-both_ways : {X : Type 0} (P : X → Type 0) (b : Bool) (x y : X) → (b ≡ true → P x) → (b ≡ false → P y) → P (cond b x y)
+pub both_ways : {X : Type 0} (P : X → Type 0) (b : Bool) (x y : X) → (b ≡ true → P x) → (b ≡ false → P y) → P (cond b x y)
 both_ways P true x y p q = p refl
 both_ways P false x y p q = q refl
 
@@ -64,7 +64,7 @@ module _ (def : Definition) where
   waiting_top anything x more kind h = absurd h
   waiting_top (observed f) x more kind h = absurd (cons_nil x more h.0)
 
-  node_top : (f : Fragment) (kind : Kind) → Fits def f [] kind → IsPlain f → is_list f ≡ false → is_hole f ≡ false
+  pub node_top : (f : Fragment) (kind : Kind) → Fits def f [] kind → IsPlain f → is_list f ≡ false → is_hole f ≡ false
       → HasTop f kind
   node_top (hole p) kind h w l e = absurd (true≢false e)
   node_top (ending i u) kind h w l e = absurd (true≢false l)
@@ -79,7 +79,7 @@ module _ (def : Definition) where
   node_top (observed f) kind h w l e = absurd w
 
   module _ (sound : IsSound def) (keep : ℕ → Bool) (fresh : ℕ → Name) (names : (n : ℕ) → IsName def (fresh n)) where
-    opened_hole : (t : Fragment) (kind : Kind) → Fits def t [] kind → IsPlain t → has_no_placeholder def t ≡ false
+    pub opened_hole : (t : Fragment) (kind : Kind) → Fits def t [] kind → IsPlain t → has_no_placeholder def t ≡ false
         → is_hole t ≡ false → Fits def (hole (phylum_of def t)) [] kind
     opened_hole t kind h w fixed e =
         let (l, d) = parts (is_list t) (at.declares_by def (operator_of def t)) fixed in
@@ -101,7 +101,7 @@ module _ (def : Definition) where
         (λ other. both_ways (λ f. Fits def f [] kind) (keep n) as_node (hole (phylum_of def t)) (λ e. b)
         (λ e. opened_hole t kind h w fixed other)))
 
-    child_plain : (n : ℕ) (t as_fixed as_node : Fragment) → IsPlain t → IsPlain as_fixed → IsPlain as_node
+    pub child_plain : (n : ℕ) (t as_fixed as_node : Fragment) → IsPlain t → IsPlain as_fixed → IsPlain as_node
         → IsPlain (opened_child def keep fresh n t as_fixed as_node)
     child_plain n t as_fixed as_node w a b =
         both_ways IsPlain (has_no_placeholder def t) as_fixed (cond (is_hole t) t (cond (keep n) as_node (hole (phylum_of def t))))
@@ -109,7 +109,7 @@ module _ (def : Definition) where
         (λ fixed. both_ways IsPlain (is_hole t) t (cond (keep n) as_node (hole (phylum_of def t))) (λ e. w)
         (λ other. both_ways IsPlain (keep n) as_node (hole (phylum_of def t)) (λ e. b) (λ e. tt)))
 
-    plain : (d n : ℕ) (f : Fragment) → IsPlain f → IsPlain (contents def keep fresh d n f)
+    pub plain : (d n : ℕ) (f : Fragment) → IsPlain f → IsPlain (contents def keep fresh d n f)
     plain d n (hole p) w = tt
     plain d n (ending l u) w = tt
     plain d n (cell l e r) w =

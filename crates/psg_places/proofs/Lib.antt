@@ -13,4 +13,9 @@ pub mod PrintLaws
 pub mod ForAllNames
 pub mod BlameLaws
 pub mod AnswerLaws
+pub mod RenameLaws
+pub mod LooserLaws
+pub mod StepLaws
+pub mod FallingLaws
 pub mod WorkLaws
+pub mod SearchLaws

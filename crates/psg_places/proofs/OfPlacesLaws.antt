@@ -11,7 +11,7 @@ use Rattle.psg_places.specs.Places.{child_size, content_count, declared_count, e
 
 module _ (def : Definition) (one two : ℕ → Bool) (old new : ℕ → Name) where
   -- the same is said of m places from n on
-  abbrev Agrees : ℕ → ℕ → Type 0
+  abbrev pub Agrees : ℕ → ℕ → Type 0
   Agrees n m = (i : ℕ) → i < m → (one (n + i) ≡ two (n + i)) × (old (n + i) ≡ new (n + i))
 
   at_first : (n m : ℕ) → Agrees n m → 0 < m → (one n ≡ two n) × (old n ≡ new n)
@@ -36,7 +36,7 @@ module _ (def : Definition) (one two : ℕ → Bool) (old new : ℕ → Name) wh
 
   -- ---- by tests
 
-  same_child : (a b : Bool) (d n m k : ℕ) (t x y u v h : Fragment) → Agrees d (cond a m 0)
+  pub same_child : (a b : Bool) (d n m k : ℕ) (t x y u v h : Fragment) → Agrees d (cond a m 0)
       → Agrees n (cond a k (cond b 0 (1 + (m + k)))) → (Agrees d m → Agrees n k → x ≡ y)
       → (Agrees (n + 1) m → Agrees (n + 1 + m) k → u ≡ v)
       → cond a x (cond b t (cond (one n) u h)) ≡ cond a y (cond b t (cond (two n) v h))
@@ -62,7 +62,7 @@ module _ (def : Definition) (one two : ℕ → Bool) (old new : ℕ → Name) wh
   twice true x y z = refl
   twice false x y z = refl
 
-  same_name : (b : Bool) (d n : ℕ) (x : Name) → Agrees d (cond b 1 0) → Agrees n (cond b 0 1)
+  pub same_name : (b : Bool) (d n : ℕ) (x : Name) → Agrees d (cond b 1 0) → Agrees n (cond b 0 1)
       → cond b (name_or_fresh def one old d x) (name_or_fresh def one old n x)
       ≡ cond b (name_or_fresh def two new d x) (name_or_fresh def two new n x)
   same_name true d n x dd nn = let h = at_first d 1 dd (omega arith) in ap₂ (λ b y. cond b x y) h.0 h.1
@@ -93,7 +93,7 @@ module _ (def : Definition) (one two : ℕ → Bool) (old new : ℕ → Name) wh
 
   -- ---- contents
 
-  same : (d n : ℕ) (f : Fragment) → Agrees d (declared_count def f) → Agrees n (content_count def f)
+  pub same : (d n : ℕ) (f : Fragment) → Agrees d (declared_count def f) → Agrees n (content_count def f)
       → left d n f ≡ right d n f
   same d n (hole p) dd nn = refl
   same d n (ending l u) dd nn = ap (ending l) (same_end (may_go_on def l) u n nn)

@@ -1,5 +1,6 @@
 -- What the search for blamed places answers.
-use Rattle.std.specs.Prelude.{ℕ, zero, suc, ◌+◌, ◌≡◌, ◌<◌, ◌^◌, ◌⊎◌, ◌↔◌, Bool, true, List, [], ◌∷◌, ◌++◌, length, Option, Some, None}
+use Rattle.std.specs.Prelude.{ℕ, zero, suc, ◌+◌, ◌≡◌, ◌<◌, ◌≤◌, ◌^◌, ◌⊎◌, ◌↔◌, Bool, true, false, cond, List, [], ◌∷◌, ◌++◌}
+use Rattle.std.specs.Prelude.{length, replicate, Option, Some, None}
 use Rattle.psg_terms.specs.Names.{Name}
 use Rattle.psg_grammar.specs.declared.types.Definition.{Definition}
 use Rattle.psg_grammar.specs.Fragments.{Fragment}
@@ -13,6 +14,7 @@ use Rattle.psg_cache.specs.declared.note.NoteFault.TheVariants as faults
 use Rattle.psg_grammar.specs.declared.types.Kind.{Kind}
 use Rattle.psg_grammar.specs.WellFormed.{WellFormed}
 use Rattle.psg_places.specs.declared.blaming.Blamed.{Blamed}
+use Rattle.psg_places.specs.declared.halving.Found.{Found}
 use Rattle.psg_places.specs.declared.fault.BlameFault.{BlameFault}
 use Rattle.psg_places.specs.declared.fault.BlameFault.TheVariants.{Limit, Memory}
 use Rattle.psg_places.specs.declared.trial.Trial.{Trial}
@@ -43,20 +45,26 @@ IsBlame IsGood def f (Some b) = IsFound IsGood def f b
 
 -- ---- faults
 
--- the answers so far, and the next place as if it were kept
+-- So many of the next places may be tried after those with these answers.
+pub record HasMore (def : Definition) (fresh : ℕ → Name) (f : Fragment) (kept : List Bool) (more : ℕ) : Type 0 where
+  pub some : 0 < more
+  pub inside : length kept + more ≤ place_count def f
+  pub few : blamed_in kept < most_blamed
+  pub answers : HasTrueRows def → AreAnswers (IsOpen def) def fresh f kept
+
+-- the answers so far, and some of the next places as if they were kept
 pub record IsNext (def : Definition) (fresh : ℕ → Name) (f : Fragment) (kept : List Bool) : Type 0 where
   pub before : List Bool
-  pub next : kept ≡ before ++ true ∷ []
-  pub answers : AreAnswers (IsOpen def) def fresh f before
-  pub left : length before < place_count def f
-  pub few : blamed_in before < most_blamed
+  pub more : ℕ
+  pub next : kept ≡ before ++ replicate more true
+  pub due : HasMore def fresh f before more
 
 -- a fault of a tree, and not of memory
 abbrev pub IsOfTree : NoteFault → Type 0
 IsOfTree faults.Memory = ⊥
 IsOfTree _ = Unit {0}
 
--- A tree that is tried keeps nothing, or the kept places so far and the next one. The fault is what is said of it.
+-- A tree that is tried keeps nothing, or the kept places so far and some of the next ones. The fault is what is said of it.
 pub record IsLimit (def : Definition) (f : Fragment) (kept : List Bool) (own : NoteFault) : Type 0 where
   pub fresh : ℕ → Name
   pub new : AreNew def f fresh
@@ -95,6 +103,31 @@ abbrev pub IsLimitOf : List Bool → NoteFault → BlameFault → Type 0
 IsLimitOf keep fault (Limit kept own) = (kept.items ≡ keep) × ((own ≡ fault) × IsOfTree own)
 IsLimitOf keep fault Memory = Unit {0}
 
--- the tree of the kept places and of the next one
-abbrev pub next_tree : Definition → Name → List Bool → Fragment → Fragment
-next_tree def front kept f = opened def (kept_in (kept ++ true ∷ [])) (new_name front) f
+-- ---- the search
+
+-- the tree of the kept places and of so many of the next ones
+abbrev pub next_tree : Definition → Name → List Bool → ℕ → Fragment → Fragment
+next_tree def front kept more f = opened def (kept_in (kept ++ replicate more true)) (new_name front) f
+
+-- So many of the next places can be kept, but not one more. `left` can't.
+pub record IsMost (def : Definition) (front : Name) (f : Fragment) (kept : List Bool) (left most : ℕ) : Type 0 where
+  pub below : most < left
+  pub good : IsOpen def (next_tree def front kept most f)
+  pub bad : IsOpen def (next_tree def front kept (most + 1) f) → ⊥
+
+-- the answers with those that were found
+abbrev pub with_found : List Bool → Found → List Bool
+with_found kept found = (kept ++ replicate found.more true) ++ cond found.blamed (false ∷ []) []
+
+-- The next places that are kept are all that are left, or the place after them can't be kept with them.
+pub record IsNextFound (def : Definition) (front : Name) (f : Fragment) (kept : List Bool) (found : Found) : Type 0 where
+  pub inside : length kept + found.more ≤ place_count def f
+  pub good : IsOpen def (next_tree def front kept found.more f)
+  pub none : found.blamed ≡ false → length kept + found.more ≡ place_count def f
+  pub one : found.blamed ≡ true → (length kept + found.more < place_count def f)
+      × (IsOpen def (next_tree def front kept (found.more + 1) f) → ⊥)
+
+-- how many places are blamed
+abbrev pub blamed_by : Option Blamed → ℕ
+blamed_by None = 0
+blamed_by (Some b) = blamed_in b.kept

@@ -96,6 +96,10 @@ module _ (IsGood : Fragment → Type 0) (def : Definition) (f : Fragment) where
     KeepsAll = IsFalling → IsGood f → (kept : ℕ → Bool) → IsBlameBy IsGood def fresh f kept
         → (n : ℕ) → n < place_count def f → kept n ≡ true
 
+    -- No place is blamed exactly if the tree is good.
+    abbrev pub IsNoneWhereGood : Type 0
+    IsNoneWhereGood = (kept : List Bool) → AreAllAnswers IsGood def fresh f kept → (blamed_in kept ≡ 0) ↔ IsGood f
+
     -- If no place is blamed, the tree is good.
     abbrev pub IsGoodIfKept : Type 0
     IsGoodIfKept = IsGood (opened def none_kept fresh f) → (kept : ℕ → Bool) → IsBlameBy IsGood def fresh f kept

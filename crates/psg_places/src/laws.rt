@@ -7,7 +7,8 @@ ghost use Rattle.psg_grammar.specs.Legal.{IsCompletable};
 ghost use Rattle.psg_grammar.specs.Open.{IsOpen};
 ghost use Rattle.psg_grammar.specs.Sound.{IsSound};
 ghost use Rattle.psg_terms.specs.Names.{Name};
-ghost use Rattle.psg_places.specs.Blame.{IsForAllNames, IsGoodIfKept, IsNeeded, IsOfPlaces, IsOne, IsWhole, KeepsAll, Leaves};
+ghost use Rattle.psg_places.specs.Blame.{IsFalling, IsForAllNames, IsGoodIfKept, IsNeeded, IsNoneWhereGood, IsOfPlaces, IsOne};
+ghost use Rattle.psg_places.specs.Blame.{IsWhole, KeepsAll, Leaves};
 ghost use Rattle.psg_places.specs.ByPlaces.{AreNumbered};
 ghost use Rattle.psg_places.specs.NewNames.{AreNew, IsFront, new_name};
 ghost use Rattle.psg_places.specs.Places.{AreCounted, place_count};
@@ -68,6 +69,28 @@ pub fn keeps_all(definition: &Definition)
     ensures open { (fresh : ℕ → Name) (f : Fragment) → KeepsAll (IsOpen definition.now) definition.now f fresh }
     ensures completable { (fresh : ℕ → Name) (f : Fragment)
         → KeepsAll (IsCompletable definition.now) definition.now f fresh }
+{
+    let _same = definition;
+}
+
+/// States that a good tree is still good with its places from some number on opened, in a definition with true hole rows.
+pub fn falls(definition: &Definition)
+    requires sound { IsSound definition.now }
+    ensures open { HasTrueRows definition.now → (f : Fragment) → IsFormed definition.now f → (fresh : ℕ → Name)
+        → AreNew definition.now f fresh → IsFalling (IsOpen definition.now) definition.now f fresh }
+    ensures completable { HasTrueRows definition.now → (f : Fragment) → IsFormed definition.now f → (fresh : ℕ → Name)
+        → AreNew definition.now f fresh → IsFalling (IsCompletable definition.now) definition.now f fresh }
+{
+    let _same = definition;
+}
+
+/// States that no place is blamed exactly if the tree is good, in a definition with true hole rows.
+pub fn none_where_good(definition: &Definition)
+    requires sound { IsSound definition.now }
+    ensures open { HasTrueRows definition.now → (f : Fragment) → IsFormed definition.now f → (fresh : ℕ → Name)
+        → AreNew definition.now f fresh → IsNoneWhereGood (IsOpen definition.now) definition.now f fresh }
+    ensures completable { HasTrueRows definition.now → (f : Fragment) → IsFormed definition.now f → (fresh : ℕ → Name)
+        → AreNew definition.now f fresh → IsNoneWhereGood (IsCompletable definition.now) definition.now f fresh }
 {
     let _same = definition;
 }

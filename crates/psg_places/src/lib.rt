@@ -19,6 +19,7 @@ mod counting;
 mod declaring;
 mod fault;
 mod fronts;
+mod halving;
 pub mod laws;
 mod listing;
 mod numbers;

@@ -1,124 +1,98 @@
-use Rattle.std.proofs.Common.{◌≡◌, inl, inr, ◌∙◌, ◌+◌, ◌<◌, ◌++◌, ◌∷◌, [], true, length, length-append, refl, ap, sym, subst, arith}
-use Rattle.psg_grammar.specs.Legal.{IsCompletable}
+use Rattle.std.proofs.Common.{◌≡◌, inl, inr, ℕ, ◌∙◌, ◌+◌, ◌*◌, ◌<◌, ◌≤◌, ◌^◌, cond, length, refl, ap, sym, subst, arith}
+use Rattle.psg_completions.specs.Conditions.{HasTrueRows}
 use Rattle.psg_grammar.specs.Open.{IsOpen}
 use Rattle.psg_grammar.specs.Work.{work_of}
 use Rattle.psg_places.specs.declared.fault.BlameFault.TheVariants.{Memory}
-use Rattle.psg_places.specs.Answers.{IsBlameFault}
-use Rattle.psg_places.specs.Blame.{AreAnswers, blamed_in, most_blamed}
+use Rattle.psg_places.specs.Answers.{HasMore, IsBlameFault, IsNextFound, next_tree, trials_work}
+use Rattle.psg_places.specs.Blame.{IsFalling, blamed_in, most_blamed}
 use Rattle.psg_places.specs.NewNames.{new_name}
 use Rattle.psg_places.specs.Places.{place_count}
-use Rattle.psg_places.proofs.AnswerLaws.{all_answers, none_yet, one_more, passed, stopped}
-use Rattle.psg_places.proofs.WorkLaws.{more_trials, one_trial}
+use Rattle.psg_places.proofs.AnswerLaws.{all_answers, passed, stopped}
+use Rattle.psg_places.proofs.FallingLaws.{open_falls}
+use Rattle.psg_places.proofs.NewNameLaws.{all_new}
+use Rattle.psg_places.proofs.SearchLaws.{IsKnown, due_more, known_first, known_good, known_round, spent_end, spent_fault, spent_most}
 use Rattle.psg_places.proofs.blaming.answers.Goals as goal
 
 pub places-init : goal.places-init
 places-init g c =
+    known_first c.args.definition.now c.args.front.now c.args.tree.now c.args.places c.args.steps.now (work_of c.args.tree.now) c.new-kept.result.items
+    c.new-kept.ensures.items c.requires.nothing
+
+pub next_found-requires-clause-more : goal.next_found-requires-clause-more
+next_found-requires-clause-more g c =
     let def = c.args.definition.now in
-    let fresh = new_name c.args.front.now in
+    let front = c.args.front.now in
     let f = c.args.tree.now in
-    record {
-      opens = none_yet (IsOpen def) def fresh f c.new-kept.result.items c.new-kept.ensures.items c.requires.nothing;
-      completable = λ rows start. none_yet (IsCompletable def) def fresh f c.new-kept.result.items c.new-kept.ensures.items start;
-      ticks = omega arith;
-    }
-
-pub keeps_next-requires-clause-answers : goal.keeps_next-requires-clause-answers
-keeps_next-requires-clause-answers g c =
-    let def = c.args.definition.now in
-    subst (AreAnswers (IsOpen def) def (new_name c.args.front.now) c.args.tree.now) (sym c.as_slice-done.ensures.value)
-    c.places.invariant.opens.answers
-
-pub keeps_next-requires-clause-left : goal.keeps_next-requires-clause-left
-keeps_next-requires-clause-left g c =
     let due = c.is_due.ensures.0 c.places-test.true in
     let long : length c.as_slice.result.now ≡ length c.places.kept.items = ap length c.as_slice.ensures.value in
-    let done : length c.as_slice-done.result.now ≡ length c.places.kept.items = ap length c.as_slice-done.ensures.value in
-    omega (arith, due.0, long, done, c.requires.count)
+    subst (λ ks. HasMore def (new_name front) f ks 1) (sym c.as_slice-done.ensures.value)
+    (due_more def front f c.args.places c.args.steps.now c.places.steps (work_of f) c.places.kept.items c.places.blamed c.places.invariant (omega (arith, due.0, long, c.requires.count)) due.1)
 
-pub keeps_next-requires-clause-few : goal.keeps_next-requires-clause-few
-keeps_next-requires-clause-few g c =
-    let due = c.is_due.ensures.0 c.places-test.true in
-    let done : blamed_in c.as_slice-done.result.now ≡ blamed_in c.places.kept.items = ap blamed_in c.as_slice-done.ensures.value in
-    omega (arith, due.1, done, c.places.invariant.opens.count)
+pub next_found-requires-clause-good : goal.next_found-requires-clause-good
+next_found-requires-clause-good g c =
+    let def = c.args.definition.now in
+    let front = c.args.front.now in
+    let f = c.args.tree.now in
+    subst (λ ks. IsOpen def (next_tree def front ks 0 f)) (sym c.as_slice-done.ensures.value)
+    (known_good def front f c.places.kept.items c.places.invariant.good)
 
-pub returns-in_err-good-clause-fault : goal.returns-in_err-good-clause-fault
-returns-in_err-good-clause-fault g c =
-    passed (IsBlameFault c.args.definition.now c.args.tree.now) _ c.in_err-good.field-0.0 c.from_residual.ensures.1
-    c.in_err-good.ensures.fault
+pub returns-in_err-found-clause-fault : goal.returns-in_err-found-clause-fault
+returns-in_err-found-clause-fault g c =
+    passed (IsBlameFault c.args.definition.now c.args.tree.now) _ c.in_err-found.field-0.0 c.from_residual.ensures.1
+    c.in_err-found.ensures.fault
 
-pub returns-in_err-push-clause-fault : goal.returns-in_err-push-clause-fault
-returns-in_err-push-clause-fault g c =
-    passed (IsBlameFault c.args.definition.now c.args.tree.now) _ Memory c.from_residual-in_err-push.ensures.1 tt
+pub returns-clause-open : goal.returns-clause-open
+returns-clause-open g c rows =
+    let def = c.args.definition.now in
+    let h = c.places.invariant in
+    let long : length c.as_slice.result.now ≡ length c.places.kept.items = ap length c.as_slice.ensures.value in
+    let stop = stopped (length c.as_slice.result.now) c.args.places c.places.blamed most_blamed c.is_due.result
+    c.is_due.ensures c.places-test.false (omega (arith, h.inside, long, c.requires.count)) h.most in
+    all_answers (IsOpen def) def (new_name c.args.front.now) c.args.tree.now c.places.kept.items c.places.blamed (h.answers rows)
+    (elim stop [ inl e ↦ inl (sym long ∙ e ∙ c.requires.count) | inr e ↦ inr e ])
+
+pub returns-clause-trials : goal.returns-clause-trials
+returns-clause-trials g c h le =
+    let W = work_of c.args.tree.now in
+    let k = c.places.invariant in
+    let a = spent_end h (length c.places.kept.items) c.args.places c.places.blamed c.args.steps.now c.places.steps W (k.spent h le) in
+    let s = ap (λ b. trials_work (1 + b * (1 + h)) W) k.count in
+    omega (arith, a, s)
+
+pub returns-clause-ticks : goal.returns-clause-ticks
+returns-clause-ticks g c h le =
+    let k = c.places.invariant in
+    spent_most h (length c.places.kept.items) c.args.places c.places.blamed c.args.steps.now c.places.steps (work_of c.args.tree.now) (k.spent h le) k.most
 
 pub places-preserved : goal.places-preserved
 places-preserved g c =
     let def = c.args.definition.now in
-    let fresh = new_name c.args.front.now in
+    let front = c.args.front.now in
     let f = c.args.tree.now in
     let due = c.is_due.ensures.0 c.places-test.true in
-    let long : length c.as_slice.result.now ≡ length c.places.kept.items = ap length c.as_slice.ensures.value in
-    let lt : length c.places.kept.items < place_count def f = omega (arith, due.0, long, c.requires.count) in
-    let same = ap (λ xs. xs ++ true ∷ []) c.as_slice-done.ensures.value in
-    let count = ap (λ n. c.places.blamed + n) c.blamed_by-more.ensures.exact in
-    let ys = c.as_slice-done.result.now ++ true ∷ [] in
-    record {
-      opens =
-          one_more (IsOpen def) def fresh f c.places.kept.items ys c.push.new.self.items c.in_ok-good.good c.places.blamed
-          (c.places.blamed + c.blamed_by-more.result) c.places.invariant.opens lt due.1 same c.in_ok-good.ensures.open
-          c.in_ok-push.ensures.items count;
-      completable = λ rows start.
-          one_more (IsCompletable def) def fresh f c.places.kept.items ys c.push.new.self.items c.in_ok-good.good
-          c.places.blamed (c.places.blamed + c.blamed_by-more.result) (c.places.invariant.completable rows start) lt due.1
-          same (c.in_ok-good.ensures.completable rows) c.in_ok-push.ensures.items count;
-      ticks =
-          let W = work_of f in
-          let more : length c.push.new.self.items ≡ length c.places.kept.items + 1 =
-          ap length c.in_ok-push.ensures.items ∙ length-append c.places.kept.items (c.in_ok-good.good ∷ []) in
-          let next = one_trial (length c.places.kept.items) (length c.push.new.self.items) W more in
-          omega (arith, c.keeps_next.ensures.ticks, c.places.invariant.ticks, next);
-    }
+    let kept = c.places.kept.items in
+    let found = c.in_ok-found.found in
+    let long : length c.as_slice.result.now ≡ length kept = ap length c.as_slice.ensures.value in
+    let lt : length kept < place_count def f = omega (arith, due.0, long, c.requires.count) in
+    let small : place_count def f < 2 ^ 64 = omega (arith, c.requires.count) in
+    let next : IsNextFound def front f kept found =
+    subst (λ ks. IsNextFound def front f ks found) c.as_slice-done.ensures.value c.in_ok-found.ensures.next in
+    let count = ap (λ n. c.places.blamed + n) c.one_if-more.ensures.exact in
+    subst (λ b. IsKnown def front f c.args.places c.args.steps.now c.next_found.new.steps (work_of f) c.add_found.new.kept.items b) (sym count)
+    (known_round def front f c.args.places c.args.steps.now c.places.steps c.next_found.new.steps (work_of f) kept c.add_found.new.kept.items c.places.blamed found
+    (λ rows. open_falls def c.requires.sound rows f c.requires.formed.0 c.requires.formed.1 (new_name front) (all_new def f front c.requires.front small))
+    c.places.invariant c.requires.count lt due.1 next c.in_ok-add_found.ensures c.in_ok-found.ensures.all c.next_found.ensures.ticks)
 
-pub returns-clause-open : goal.returns-clause-open
-returns-clause-open g c =
-    let def = c.args.definition.now in
-    let h = c.places.invariant.opens in
-    let long : length c.as_slice.result.now ≡ length c.places.kept.items = ap length c.as_slice.ensures.value in
-    let stop = stopped (length c.as_slice.result.now) c.args.places c.places.blamed most_blamed c.is_due.result
-    c.is_due.ensures c.places-test.false (omega (arith, h.answers.inside, long, c.requires.count)) h.most in
-    all_answers (IsOpen def) def (new_name c.args.front.now) c.args.tree.now c.places.kept.items c.places.blamed h
-    (elim stop [ inl e ↦ inl (sym long ∙ e ∙ c.requires.count) | inr e ↦ inr e ])
-
-pub returns-clause-completable : goal.returns-clause-completable
-returns-clause-completable g c rows start =
-    let def = c.args.definition.now in
-    let h = c.places.invariant.completable rows start in
-    let long : length c.as_slice.result.now ≡ length c.places.kept.items = ap length c.as_slice.ensures.value in
-    let stop = stopped (length c.as_slice.result.now) c.args.places c.places.blamed most_blamed c.is_due.result
-    c.is_due.ensures c.places-test.false (omega (arith, h.answers.inside, long, c.requires.count)) h.most in
-    all_answers (IsCompletable def) def (new_name c.args.front.now) c.args.tree.now c.places.kept.items c.places.blamed h
-    (elim stop [ inl e ↦ inl (sym long ∙ e ∙ c.requires.count) | inr e ↦ inr e ])
-
-pub returns-in_err-good-clause-ticks : goal.returns-in_err-good-clause-ticks
-returns-in_err-good-clause-ticks g c =
-    let W = work_of c.args.tree.now in
+pub returns-in_err-found-clause-ticks : goal.returns-in_err-found-clause-ticks
+returns-in_err-found-clause-ticks g c h le =
     let due = c.is_due.ensures.0 c.places-test.true in
     let long : length c.as_slice.result.now ≡ length c.places.kept.items = ap length c.as_slice.ensures.value in
-    let next = one_trial (length c.places.kept.items) (length c.places.kept.items + 1) W refl in
-    let less = more_trials (length c.places.kept.items + 1) c.args.places W (omega (arith, due.0, long)) in
-    omega (arith, c.keeps_next.ensures.ticks, c.places.invariant.ticks, next, less)
+    spent_fault h (length c.places.kept.items) c.args.places c.places.blamed c.args.steps.now c.places.steps (work_of c.args.tree.now)
+    c.next_found.new.steps (c.places.invariant.spent h le) (omega (arith, due.0, long)) due.1 (c.next_found.ensures.ticks h le)
 
-pub returns-in_err-push-clause-ticks : goal.returns-in_err-push-clause-ticks
-returns-in_err-push-clause-ticks g c =
-    let W = work_of c.args.tree.now in
+pub returns-in_err-add_found-clause-ticks : goal.returns-in_err-add_found-clause-ticks
+returns-in_err-add_found-clause-ticks g c h le =
     let due = c.is_due.ensures.0 c.places-test.true in
     let long : length c.as_slice.result.now ≡ length c.places.kept.items = ap length c.as_slice.ensures.value in
-    let next = one_trial (length c.places.kept.items) (length c.places.kept.items + 1) W refl in
-    let less = more_trials (length c.places.kept.items + 1) c.args.places W (omega (arith, due.0, long)) in
-    omega (arith, c.keeps_next.ensures.ticks, c.places.invariant.ticks, next, less)
-
-pub returns-clause-ticks : goal.returns-clause-ticks
-returns-clause-ticks g c =
-    let W = work_of c.args.tree.now in
-    let less = more_trials (length c.places.kept.items) c.args.places W
-    (omega (arith, c.places.invariant.opens.answers.inside, c.requires.count)) in
-    omega (arith, c.places.invariant.ticks, less)
+    spent_fault h (length c.places.kept.items) c.args.places c.places.blamed c.args.steps.now c.places.steps (work_of c.args.tree.now)
+    c.next_found.new.steps (c.places.invariant.spent h le) (omega (arith, due.0, long)) due.1 (c.next_found.ensures.ticks h le)
