@@ -28,6 +28,8 @@ const HELP: &str = "psg: editors of small languages, from their definitions
                         has, and writes five lines of the program that it builds: nodes, bytes, weight, menu, mark
   psg layout DEF SCRIPT LAY COLS   runs the script in silence, and writes the program then, arranged for COLS columns,
                         from 1 to 400, by the groups and breaks of the file LAY
+  psg self SCRIPT OUT   runs the script in silence on the language of definitions, writes the definition that it builds to
+                        the file OUT, and says what check says of it
   psg format DEF KIND FILE   writes the program of the file FILE, which is of the kind KIND, as it is to be laid out, or
                         where it is no program; with --check at the end, in which line it is not laid out so
   psg --help            writes this text
@@ -36,6 +38,9 @@ const HELP: &str = "psg: editors of small languages, from their definitions
 By the launcher ./psg alone:
   ./psg codes           writes what the numbers and names of replies mean; ./psg codes 12 those of one, with an example
   ./psg commands        writes the commands with their replies and refusals
+  ./psg help WORD       writes what is known of a word: a form, a command, a number or a name
+  ./psg check --warn DEF   says also what is accepted and likely a slip
+  ./psg test DEF FILE.. plays the examples of the files on the definition
   ./psg --explain WORDS..   says on standard error, in words, what is refused; without the word where that is a terminal
   ./psg --build         proves the program and builds it
 
