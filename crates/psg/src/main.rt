@@ -21,7 +21,7 @@ const HELP: &str = "psg: editors of small languages, from their definitions
   psg edit DEF SCRIPT   reads the definition of a language from the file DEF, and runs each line of the file
                         SCRIPT as a command of an editor of it; the replies go to standard output
   psg live DEF          does the same with the lines of standard input; each reply is written before the next line
-                        is read
+                        is read; psg live --framed DEF writes before each reply a line with the number of its lines
   psg windows DEF SCRIPT   runs each line of the file SCRIPT for one of eight windows, each with a cursor of its own: a
                         digit from 0 to 7, a space and a command; each line of a reply has the digit in front
   psg gen N             plays a script that is made for the number N, from 1 to 1,000, on a language that the program
@@ -32,6 +32,8 @@ const HELP: &str = "psg: editors of small languages, from their definitions
                         the file OUT, and says what check says of it
   psg format DEF KIND FILE   writes the program of the file FILE, which is of the kind KIND, as it is to be laid out, or
                         where it is no program; with --check at the end, in which line it is not laid out so
+  psg explain DEF SCRIPT   runs the script in silence, and says why the program then has no completion: ok, or the first
+                        node that goes wrong, its first step without rows, and why each pair of rows makes none
   psg --help            writes this text
   psg --version         writes the version
 
@@ -40,7 +42,10 @@ By the launcher ./psg alone:
   ./psg commands        writes the commands with their replies and refusals
   ./psg help WORD       writes what is known of a word: a form, a command, a number or a name
   ./psg check --warn DEF   says also what is accepted and likely a slip
+  ./psg check --all DEF    says the first fault of each line
   ./psg test DEF FILE.. plays the examples of the files on the definition
+  ./psg sample DEF KIND N SEED   writes N random programs of the kind that are right
+  ./psg tree DEF KIND FILE   writes the tree of a program file as JSON
   ./psg --explain WORDS..   says on standard error, in words, what is refused; without the word where that is a terminal
   ./psg --build         proves the program and builds it
 

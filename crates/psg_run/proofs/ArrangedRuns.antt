@@ -26,7 +26,7 @@ use Rattle.psg_run.proofs.FormedRuns.{has_kept_forms}
 use Rattle.psg_run.proofs.OneRun.{no_front, whole_put}
 
 -- lines that lead on in silence lead on with their replies
-with_replies : {def : Definition} {s t : Point Editor} {lines : List (List ℕ)} {texts : List ℕ}
+pub with_replies : {def : Definition} {s t : Point Editor} {lines : List (List ℕ)} {texts : List ℕ}
     → Runs Editor (IsSilent def) s lines texts t → (replies : List ℕ) × Runs Editor (IsReplied def) s lines replies t
 with_replies rests = ([], rests)
 with_replies (goes mid text texts played more) =
@@ -36,7 +36,7 @@ with_replies (goes mid text texts played more) =
     )
 
 -- and put nothing
-puts_none : {def : Definition} {s t : Point Editor} {lines : List (List ℕ)} {texts : List ℕ}
+pub puts_none : {def : Definition} {s t : Point Editor} {lines : List (List ℕ)} {texts : List ℕ}
     → Runs Editor (IsSilent def) s lines texts t → texts ≡ []
 puts_none rests = refl
 puts_none (goes mid text texts played more) =

@@ -13,7 +13,7 @@ use Rattle.psg_langs.specs.declared.named.TheConstants.{MINI, SELF}
 use Rattle.psg_world.specs.Files.{Held, bytes_of}
 use Rattle.psg_world.specs.Sinks.{HasRisen}
 use Rattle.psg_self.specs.SelfLanguage.{IsSelf}
-use Rattle.psg_session.specs.Replies.{feed}
+use Rattle.psg_session.specs.Replies.{Reply, feed, reply_text}
 use Rattle.psg_run.specs.declared.status.Status.{Status}
 use Rattle.psg_run.specs.declared.status.Status.TheVariants as ends_with
 use Rattle.psg_layout.specs.declared.layout.Layout.{Layout}
@@ -23,14 +23,17 @@ use Rattle.psg_run.specs.Arranging.{no_room_for_layout, no_room_to_arrange, tell
 use Rattle.psg_run.specs.Chain.{IsPlayed, Point, Runs, breaks, closes, goes, is_played, no_room_to_begin, puts_front}
 use Rattle.psg_run.specs.Chain.{rests}
 use Rattle.psg_run.specs.Editing.{BreaksOff, Edits, Editor, IsReplied, JustEnds, new_editor}
+use Rattle.psg_run.specs.Explaining.{Explains, no_room_to_explain, tells_why}
 use Rattle.psg_run.specs.Exporting.{Exports, GoesOnAsSelf, is_itself, is_other, no_room_to_export, tells_export}
 use Rattle.psg_run.specs.Formatting.{Formats, IsTold, TellsProgram, is_as_it_is_to_be, is_declaring, is_faulty, is_formatted}
 use Rattle.psg_run.specs.Formatting.{is_kind, is_no_program, is_not_formatted, is_unknown, most_program_bytes}
 use Rattle.psg_run.specs.Formatting.{no_room_for_program, tells_program}
+use Rattle.psg_run.specs.Framed.{framed_text}
 use Rattle.psg_run.specs.Generated.{Generates, no_room_to_tell, tells}
-use Rattle.psg_run.specs.Live.{EndsInput, IsRepliedLive, Talks, is_at_end, is_unread_line, no_room_for_line}
+use Rattle.psg_run.specs.Live.{EndsInput, IsRepliedLiveBy, Talks, TalksBy, is_at_end, is_unread_line, no_room_for_line}
 use Rattle.psg_run.specs.Outputs.{EndsWell, HasDefinition, HasLayout, HasProgram, IsRight, IsShort, WasRead}
-use Rattle.psg_run.specs.Promise.{check, edit, live, windows, gen, layout, itself, format, check_format}
+use Rattle.psg_run.specs.Promise.{check, edit, framed, live, windows, gen, layout, itself, format, check_format}
+use Rattle.psg_run.specs.Promise.{explain}
 use Rattle.psg_run.specs.Reading.{Defines, IsAccepted, IsRefusalLine, Reads, is_accepted, is_long, is_read, is_refused}
 use Rattle.psg_run.specs.Reading.{is_unread, most_definition_bytes, most_script_bytes, no_definition}
 use Rattle.psg_run.specs.Reading.{no_room_for_definition, no_room_for_file, not_accepted}
@@ -149,12 +152,25 @@ module _ (old new : World) (sink : HasRisen old.count new.count → ⊥) where
   exports_well def file lines status (is_played first left texts last split runs (breaks t broken wrote)) = inr refl
   exports_well def file lines status (no_room_to_begin same) = inr refl
 
+  explains_well : (def : Definition) (lines : List (List ℕ)) (status : Status) → Explains def lines old new status
+      → IsWell status
+  explains_well def lines status
+      (is_played first left texts last split runs (closes t text ended (tells_why told ticks said few) puts)) =
+      puts_well (inl refl) sink puts
+  explains_well def lines status
+      (is_played first left texts last split runs (closes t text ended (no_room_to_explain ticks few) puts)) =
+      puts_well (inr refl) sink puts
+  explains_well def lines status (is_played first left texts last split runs (puts_front t text played front)) =
+      front_well sink front
+  explains_well def lines status (is_played first left texts last split runs (breaks t broken wrote)) = inr refl
+  explains_well def lines status (no_room_to_begin same) = inr refl
+
   -- no line that was given is missed
-  none_missed : (def : Definition) {s t : Point Editor} {pieces : List (List ℕ)} {texts : List ℕ}
-      → Runs Editor (IsRepliedLive def) s pieces texts t → t.input.missed ≡ s.input.missed
-  none_missed def rests = refl
-  none_missed def (goes mid text texts (input, gives, runs) more) =
-      none_missed def more ∙ ap (λ (x : Incoming). x.missed) (input_kept def runs) ∙ gives.missed
+  none_missed : (write : Reply → List ℕ) (def : Definition) {s t : Point Editor} {pieces : List (List ℕ)}
+      {texts : List ℕ} → Runs Editor (IsRepliedLiveBy def write) s pieces texts t → t.input.missed ≡ s.input.missed
+  none_missed write def rests = refl
+  none_missed write def (goes mid text texts (input, gives, runs) more) =
+      none_missed write def more ∙ ap (λ (x : Incoming). x.missed) (input_kept def write runs) ∙ gives.missed
 
   -- the input ended
   input_well : (before last : Incoming) (ended status : Status) {bytes : List ℕ} {from : World} → from.count ≡ old.count
@@ -170,15 +186,17 @@ module _ (old new : World) (sink : HasRisen old.count new.count → ⊥) where
   input_well before last ended status counts is same missed (no_room_for_line given kept) puts =
       puts_well (inr refl) (λ risen. sink (subst (λ n. HasRisen n new.count) counts risen)) puts
 
-  live_well : (def : Definition) (status : Status) → new.input.missed ≡ old.input.missed → Talks def old new status
-      → IsWell status
-  live_well def status missed
+  live_well : (write : Reply → List ℕ) (def : Definition) (status : Status) → new.input.missed ≡ old.input.missed
+      → TalksBy write def old new status → IsWell status
+  live_well write def status missed
       (pieces, is_played first left texts last split runs (closes t text ended (none, at_end, same) puts)) =
-      input_well last.input t.input ended status refl refl (none_missed def runs) missed at_end puts
-  live_well def status missed (pieces, is_played first left texts last split runs (puts_front t text played front)) =
+      input_well last.input t.input ended status refl refl (none_missed write def runs) missed at_end puts
+  live_well write def status missed
+      (pieces, is_played first left texts last split runs (puts_front t text played front)) =
       front_well sink front
-  live_well def status missed (pieces, is_played first left texts last split runs (breaks t broken wrote)) = inr refl
-  live_well def status missed (pieces, no_room_to_begin same) = inr refl
+  live_well write def status missed (pieces, is_played first left texts last split runs (breaks t broken wrote)) =
+      inr refl
+  live_well write def status missed (pieces, no_room_to_begin same) = inr refl
 
   -- ---- what is read
 
@@ -332,8 +350,16 @@ has_ended_well (windows d s) old new status run ((has, was, short, was_script), 
     file_well old new sink d (λ def. Reads s most_script_bytes (λ bytes. PlaysWindows def (script_lines bytes))) status
     has was (λ def ended on. script_well old new sink s (PlaysWindows def) ended short was_script
     (windows_well old new sink def) on) run
+has_ended_well (explain d s) old new status run ((has, was, short, was_script), sink) =
+    file_well old new sink d (λ def. Reads s most_script_bytes (λ bytes. Explains def (script_lines bytes))) status
+    has was (λ def ended on. script_well old new sink s (Explains def) ended short was_script
+    (explains_well old new sink def) on) run
 has_ended_well (live d) old new status run (has, was, missed, sink) =
-    file_well old new sink d Talks status has was (λ def ended on. live_well old new sink def ended missed on) run
+    file_well old new sink d Talks status has was
+    (λ def ended on. live_well old new sink reply_text def ended missed on) run
+has_ended_well (framed d) old new status run (has, was, missed, sink) =
+    file_well old new sink d (TalksBy framed_text) status has was
+    (λ def ended on. live_well old new sink framed_text def ended missed on) run
 has_ended_well (gen number) old new status run ((def, accepted), sink) =
     defines_well old new sink MINI.now def (λ other. Generates other number) status accepted
     (λ other ended on. gen_well old new sink other number ended on) run

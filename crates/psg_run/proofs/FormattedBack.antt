@@ -10,7 +10,7 @@ use Rattle.std.proofs.lemmas.Str.{IsUtf8-append, chars-append, chars-nil, chars_
 use Rattle.unicode_ident.proofs.Computing.{unicode_ident}
 use Rattle.psg_terms.specs.Names.{Name}
 use Rattle.psg_terms.specs.Words.{IsWord, goes_on_word, starts_word}
-use Rattle.psg_lexis.specs.Classes.{BeginsBy, Chars, Glue, is_blank, is_digit, is_solo, is_symbol}
+use Rattle.psg_lexis.specs.Classes.{BeginsBy, Chars, is_blank, is_digit, is_solo, is_symbol}
 use Rattle.psg_lexis.specs.Tokens.{HasTokens, IsFixedWord, IsToken, blank, bytes_of, dots, hole, more, next, nothing, number, solo, symbol, text, word}
 use Rattle.psg_lexis.specs.declared.token.Spanned.{Spanned}
 use Rattle.psg_lexis.specs.declared.token.Token.{Token}

@@ -13,6 +13,8 @@ pub mod Summing
 pub mod Laying
 pub mod Exported
 pub mod Reports
+pub mod Saying
+pub mod Whys
 pub mod WholeDefinitions
 pub mod Feeds
 pub mod WordForms
@@ -32,4 +34,6 @@ pub mod OneRun
 pub mod WindowRuns
 pub mod ArrangedRuns
 pub mod OneArranged
+pub mod OneCheckLine
+pub mod OneExport
 pub mod CaseRuns

@@ -14,9 +14,9 @@ use Rattle.psg_session.specs.Replies.{Reply, answered}
 use Rattle.psg_run.specs.declared.status.Status.{Status}
 use Rattle.psg_run.specs.declared.status.Status.TheVariants as ends_with
 use Rattle.psg_run.specs.Chain.{Finishes, Runs, breaks, closes, is_played, puts_front, rests}
-use Rattle.psg_run.specs.Editing.{BreaksOff, Editor, IsReplied, JustEnds}
+use Rattle.psg_run.specs.Editing.{BreaksOff, Editor, IsRepliedBy, JustEnds}
 use Rattle.psg_run.specs.Endings.{read_status}
-use Rattle.psg_run.specs.Live.{BreaksLive, EndsInput, EndsLive, Gives, IsRepliedLive, Talks, heard, is_at_end, is_unread_line, most_line_bytes, no_room_for_line}
+use Rattle.psg_run.specs.Live.{BreaksLive, EndsInput, EndsLive, Gives, IsRepliedLiveBy, TalksBy, heard, is_at_end, is_unread_line, most_line_bytes, no_room_for_line}
 use Rattle.psg_run.specs.Playing.{FinishesIn, PutsLines, point}
 use Rattle.psg_run.specs.Scripts.{kept_lines}
 use Rattle.psg_run.specs.Worlds.{Incoming, World, put_whole}
@@ -100,59 +100,59 @@ input_stops old new read_stops.Memory counted missed = no_room_for_line counted 
 
 -- ---- the lines so far
 
-pub record LiveSoFar (def : Definition) (state : State) (old now : World) : Type 0 where
+pub record LiveSoFar (write : Reply → List ℕ) (def : Definition) (state : State) (old now : World) : Type 0 where
   pub pieces : List (List ℕ)
   pub reply : Reply
   pub texts : List ℕ
-  pub runs : Runs Editor (IsRepliedLive def) (point start (answered []) old) pieces texts (point state reply now)
+  pub runs : Runs Editor (IsRepliedLiveBy def write) (point start (answered []) old) pieces texts (point state reply now)
   pub put : now.written ≡ append_known old.written texts
 
 -- the world with another input
 abbrev pub given_input : World → Incoming → World
 given_input w input = record { files = w.files; input = input; ticks = w.ticks; written = w.written; count = w.count }
 
-module _ (def : Definition) where
-  pub listens : (state : State) (old : World) → state ≡ start → LiveSoFar def state old old
+module _ (write : Reply → List ℕ) (def : Definition) where
+  pub listens : (state : State) (old : World) → state ≡ start → LiveSoFar write def state old old
   listens state old is = record {
     pieces = [];
     reply = answered [];
     texts = [];
-    runs = subst (λ s. Runs Editor (IsRepliedLive def) (point start (answered []) old) [] [] (point s (answered []) old)) (sym is) rests;
+    runs = subst (λ s. Runs Editor (IsRepliedLiveBy def write) (point start (answered []) old) [] [] (point s (answered []) old)) (sym is) rests;
     put = sym (append_known-nil old.written);
   }
 
-  module _ (s : State) (old mid : World) (h : LiveSoFar def s old mid) (input : Incoming) where
+  module _ (s : State) (old mid : World) (h : LiveSoFar write def s old mid) (input : Incoming) where
     module _ (line piece : List ℕ) (gives : Gives mid.input input line) (same : heard line ≡ heard piece) where
-      pub turned : (t : State) (new : World) → PutsLines def (heard piece) s t h.reply (given_input mid input) new → LiveSoFar def t old new
+      pub turned : (t : State) (new : World) → PutsLines write def (heard piece) s t h.reply (given_input mid input) new → LiveSoFar write def t old new
       turned t new p = record {
         pieces = h.pieces ++ line ∷ [];
         reply = p.reply;
         texts = h.texts ++ p.text;
-        runs = runs_more Editor (IsRepliedLive def) h.runs
-            (input, gives, subst (λ l. Runs Editor (IsReplied def) (point s h.reply (given_input mid input)) l p.text (point t p.reply new)) (sym same) p.runs);
+        runs = runs_more Editor (IsRepliedLiveBy def write) h.runs
+            (input, gives, subst (λ l. Runs Editor (IsRepliedBy def write) (point s h.reply (given_input mid input)) l p.text (point t p.reply new)) (sym same) p.runs);
         put = p.put ∙ ap (λ w. append_known w p.text) h.put ∙ append_known-append old.written h.texts p.text;
       }
 
       -- the run ends at the line
       pub turn_ends : (new : World) (status : Status) → old.count ≤ mid.count
-          → FinishesIn def (heard piece) s h.reply (given_input mid input) new status → Talks def old new status
+          → FinishesIn write def (heard piece) s h.reply (given_input mid input) new status → TalksBy write def old new status
       turn_ends new status less f =
           (h.pieces ++ line ∷ [], is_played h.pieces (line ∷ []) h.texts (point s h.reply mid) refl h.runs (ends status (f.finishes []))) where
             is_line : heard line ≡ f.line ∷ []
             is_line = same ∙ f.is_one
 
-            ends : (status : Status) → Finishes Editor (IsReplied def) (BreaksOff def) JustEnds (given_input mid input) [] (point s h.reply (given_input mid input)) (f.line ∷ []) new status
-                → Finishes Editor (IsRepliedLive def) (BreaksLive def) EndsLive old h.texts (point s h.reply mid) (line ∷ []) new status
+            ends : (status : Status) → Finishes Editor (IsRepliedBy def write) (BreaksOff def) JustEnds (given_input mid input) [] (point s h.reply (given_input mid input)) (f.line ∷ []) new status
+                → Finishes Editor (IsRepliedLiveBy def write) (BreaksLive def) EndsLive old h.texts (point s h.reply mid) (line ∷ []) new status
             ends status (puts_front t text plays puts) =
                 puts_front t text
-                (input, gives, subst (λ l. Runs Editor (IsReplied def) (point s h.reply (given_input mid input)) l text t) (sym is_line) (runs_one Editor (IsReplied def) plays))
+                (input, gives, subst (λ l. Runs Editor (IsRepliedBy def write) (point s h.reply (given_input mid input)) l text t) (sym is_line) (runs_one Editor (IsRepliedBy def write) plays))
                 (front_earlier old (given_input mid input) h.texts h.put less Editor t text new status puts)
             ends status (breaks t within wrote) =
                 breaks t (input, f.line, gives, is_line, within)
                 (wrote_earlier old (given_input mid input) h.texts h.put less Editor t [] new wrote)
 
     -- the run ends where the input gives no line
-    pub input_closes : (status : Status) → EndsInput mid.input input status → Talks def old (given_input mid input) status
+    pub input_closes : (status : Status) → EndsInput mid.input input status → TalksBy write def old (given_input mid input) status
     input_closes status ends = (
       h.pieces,
       is_played h.pieces [] h.texts (point s h.reply mid) (sym (append-nil h.pieces)) h.runs

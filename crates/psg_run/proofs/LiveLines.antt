@@ -1,8 +1,9 @@
 -- Lines that are read from an input are replied to as those of a script.
 use Rattle.std.proofs.Common.{◌≡◌, ℕ, List, refl, ◌∙◌}
 use Rattle.psg_grammar.specs.declared.types.Definition.{Definition}
+use Rattle.psg_session.specs.Replies.{Reply}
 use Rattle.psg_run.specs.Chain.{Point, Runs, rests, goes}
-use Rattle.psg_run.specs.Editing.{Editor, IsReplied}
+use Rattle.psg_run.specs.Editing.{Editor, IsReplied, IsRepliedBy}
 use Rattle.psg_run.specs.Live.{IsRepliedLive, with_input}
 use Rattle.psg_run.specs.Outputs.{RepliesAlike, live_lines}
 use Rattle.psg_run.specs.Worlds.{Incoming}
@@ -10,10 +11,10 @@ use Rattle.psg_run.proofs.Chains.{runs_append}
 
 module _ (def : Definition) where
   -- a script's lines do not touch the input
-  pub input_kept : {s t : Point Editor} {lines : List (List ℕ)} {texts : List ℕ}
-      → Runs Editor (IsReplied def) s lines texts t → t.input ≡ s.input
-  input_kept rests = refl
-  input_kept (goes mid text texts played more) = input_kept more ∙ played.0.input
+  pub input_kept : (write : Reply → List ℕ) {s t : Point Editor} {lines : List (List ℕ)} {texts : List ℕ}
+      → Runs Editor (IsRepliedBy def write) s lines texts t → t.input ≡ s.input
+  input_kept write rests = refl
+  input_kept write (goes mid text texts played more) = input_kept write more ∙ played.0.input
 
   -- and lead on as they do over any other input
   over_input : {s t : Point Editor} {lines : List (List ℕ)} {texts : List ℕ} (input : Incoming)

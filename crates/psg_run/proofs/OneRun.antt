@@ -62,7 +62,7 @@ line_grows {before = before} {after = after} (to_nothing none state files count 
     same_long before.entries after.entries (ap (λ (x : Outside). x.entries) files)
 line_grows (to_command command spells applied) = answers_grow applied.answers
 
-runs_grow : {def : Definition} {s t : Point Editor} {lines : List (List ℕ)} {texts : List ℕ}
+pub runs_grow : {def : Definition} {s t : Point Editor} {lines : List (List ℕ)} {texts : List ℕ}
     → Runs Editor (IsReplied def) s lines texts t → length s.files.entries ≤ length t.files.entries
 runs_grow rests = omega arith
 runs_grow (goes mid text texts played more) =
@@ -198,7 +198,7 @@ pub whole_put : {bytes : List ℕ} {ended : Status} {old new : World} → Puts b
 whole_put (put_whole wrote) = wrote
 whole_put (put_front front) = absurd (no_front front)
 
-no_refusal_put : {bytes : List ℕ} {old new : World} → Puts bytes ends_with.DefinitionRefused old new ends_with.Done → ⊥
+pub no_refusal_put : {bytes : List ℕ} {old new : World} → Puts bytes ends_with.DefinitionRefused old new ends_with.Done → ⊥
 no_refusal_put (put_front front) = no_front front
 
 pub was_read : {file : Name} {limit : ℕ} {Next : List ℕ → Act} {old new : World}

@@ -1,13 +1,11 @@
 -- Runs that look up a kind, and what they tell of a program file.
-use Rattle.std.proofs.Common.{◌≡◌, ℕ, Bool, true, false, List, [], ◌++◌, None, Some, refl, sym, ap, ◌∙◌, subst}
+use Rattle.std.proofs.Common.{◌≡◌, ℕ, Bool, true, false, List, [], ◌++◌, sym, ◌∙◌, subst}
 use Rattle.std.specs.Prelude.{codes, string_bytes}
-use Rattle.std.proofs.lemmas.Option.{none-some}
 use Rattle.psg_terms.specs.Names.{Name}
 use Rattle.psg_grammar.specs.declared.types.Definition.{Definition}
 use Rattle.psg_grammar.specs.declared.types.Kind.{Kind}
 use Rattle.psg_grammar.specs.Fragments.{Fragment}
-use Rattle.psg_program.specs.declared.fault.ProgramFault.{ProgramFault}
-use Rattle.psg_program.specs.declared.fault.ProgramFault.TheVariants.{Syntax, Memory}
+use Rattle.psg_program.specs.declared.fault.ProgramFault.TheVariants.{Syntax}
 use Rattle.psg_program.specs.declared.fault.SyntaxError.{SyntaxError}
 use Rattle.psg_program.specs.Formatted.{IsFirstDifference, formatted}
 use Rattle.psg_program.specs.Programs.{IsProgram, IsProgramFault}

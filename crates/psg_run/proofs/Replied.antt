@@ -12,7 +12,7 @@ use Rattle.psg_session.specs.Replies.{Reply, answered, reply_text}
 use Rattle.psg_run.specs.declared.status.Status.{Status}
 use Rattle.psg_run.specs.declared.status.Status.TheVariants as ends_with
 use Rattle.psg_run.specs.Chain.{Runs, breaks, closes, is_played, puts_front, rests}
-use Rattle.psg_run.specs.Editing.{BreaksOff, Editor, Edits, IsReplied, IsSilent, JustEnds}
+use Rattle.psg_run.specs.Editing.{BreaksOff, Editor, Edits, IsReplied, IsRepliedBy, IsSilent, JustEnds}
 use Rattle.psg_run.specs.Endings.{write_status}
 use Rattle.psg_run.specs.Playing.{BreaksAmong, BreaksIn, FinishesAt, FinishesIn, PutsLines, PutsReply, point}
 use Rattle.psg_run.specs.Scripts.{is_feed, kept_lines}
@@ -21,62 +21,62 @@ use Rattle.psg_run.proofs.Chains.{append_known-append, append_known-nil, finishe
 
 -- ---- one line
 
-module _ (def : Definition) (s t : State) (before reply : Reply) (line : List ℕ) (old new : World) (same : new.input ≡ old.input) where
+module _ (write : Reply → List ℕ) (def : Definition) (s t : State) (before reply : Reply) (line : List ℕ) (old new : World) (same : new.input ≡ old.input) where
   nothing_put : new.written ≡ old.written → new.written ≡ append_known (append_known old.written []) []
   nothing_put put = put ∙ sym (append_known-nil old.written) ∙ sym (append_known-nil (append_known old.written []))
 
   pub line_breaks : (rest : List (List ℕ)) → HasBroken def s line old.files new.files old.ticks new.ticks → new.written ≡ old.written
-      → FinishesAt def s before (line ∷ rest) old new ends_with.Memory
+      → FinishesAt write def s before (line ∷ rest) old new ends_with.Memory
   line_breaks rest broken put =
       breaks (point s before new) (record { breaks = broken; input = same })
       (record { files = refl; input = refl; ticks = refl; took = nothing_put put })
 
   module _ (answers : HasAnswered def s t line old.files new.files old.ticks new.ticks reply) where
-    is_next : IsReplied def (point s before old) line (reply_text reply) (point t reply new)
+    is_next : IsRepliedBy def write (point s before old) line (write reply) (point t reply new)
     is_next = (record { answers = answers; input = same }, refl)
 
-    pub line_unput : (rest : List (List ℕ)) → new.written ≡ old.written → FinishesAt def s before (line ∷ rest) old new ends_with.Memory
+    pub line_unput : (rest : List (List ℕ)) → new.written ≡ old.written → FinishesAt write def s before (line ∷ rest) old new ends_with.Memory
     line_unput rest put =
-        puts_front (point t reply new) (reply_text reply) is_next
+        puts_front (point t reply new) (write reply) is_next
         (not_put (record { files = refl; input = refl; ticks = refl; took = nothing_put put }))
 
-    pub line_front : (rest : List (List ℕ)) (bytes : List ℕ) → bytes ≡ reply_text reply → TakesFront old.written bytes new.written
+    pub line_front : (rest : List (List ℕ)) (bytes : List ℕ) → bytes ≡ write reply → TakesFront old.written bytes new.written
         → (stop : WriteStop) → (stop ≡ stops.Failed → HasRisen old.count new.count)
-        → FinishesAt def s before (line ∷ rest) old new (write_status stop)
+        → FinishesAt write def s before (line ∷ rest) old new (write_status stop)
     line_front rest bytes is takes stops.Failed risen =
         let (front, proper, wrote) = took_front bytes (record { files = new.files; input = new.input; ticks = new.ticks; written = append_known old.written []; count = old.count }) new refl refl refl
         (subst (λ w. TakesFront w bytes new.written) (sym (append_known-nil old.written)) takes) in
-        puts_front (point t reply new) (reply_text reply) is_next (put_failed front (subst (λ b. IsProperFrontOf front b) is proper) wrote (risen refl))
+        puts_front (point t reply new) (write reply) is_next (put_failed front (subst (λ b. IsProperFrontOf front b) is proper) wrote (risen refl))
     line_front rest bytes is takes stops.Memory risen =
         let (front, proper, wrote) = took_front bytes (record { files = new.files; input = new.input; ticks = new.ticks; written = append_known old.written []; count = old.count }) new refl refl refl
         (subst (λ w. TakesFront w bytes new.written) (sym (append_known-nil old.written)) takes) in
-        puts_front (point t reply new) (reply_text reply) is_next (put_in_part front (subst (λ b. IsProperFrontOf front b) is proper) wrote)
+        puts_front (point t reply new) (write reply) is_next (put_in_part front (subst (λ b. IsProperFrontOf front b) is proper) wrote)
 
-    pub line_put : (bytes : List ℕ) → bytes ≡ reply_text reply → new.written ≡ append_known old.written bytes
-        → PutsReply def line s t before old new
+    pub line_put : (bytes : List ℕ) → bytes ≡ write reply → new.written ≡ append_known old.written bytes
+        → PutsReply write def line s t before old new
     line_put bytes is put = record {
       reply = reply;
-      text = reply_text reply;
+      text = write reply;
       replies = is_next;
       put = put ∙ ap (append_known old.written) is;
     }
 
 -- ---- one line or none
 
-module _ (def : Definition) (lines : List (List ℕ)) (s : State) (before : Reply) (old : World) where
-  pub some_put : (line : List ℕ) (t : State) (new : World) → lines ≡ line ∷ [] → PutsReply def line s t before old new → PutsLines def lines s t before old new
+module _ (write : Reply → List ℕ) (def : Definition) (lines : List (List ℕ)) (s : State) (before : Reply) (old : World) where
+  pub some_put : (line : List ℕ) (t : State) (new : World) → lines ≡ line ∷ [] → PutsReply write def line s t before old new → PutsLines write def lines s t before old new
   some_put line t new is p = record {
     reply = p.reply;
     text = p.text;
-    runs = subst (λ l. Runs Editor (IsReplied def) (point s before old) l p.text (point t p.reply new)) (sym is) (runs_one Editor (IsReplied def) p.replies);
+    runs = subst (λ l. Runs Editor (IsRepliedBy def write) (point s before old) l p.text (point t p.reply new)) (sym is) (runs_one Editor (IsRepliedBy def write) p.replies);
     put = p.put;
   }
 
-  pub none_played : lines ≡ [] → PutsLines def lines s s before old old
+  pub none_played : lines ≡ [] → PutsLines write def lines s s before old old
   none_played is = record {
     reply = before;
     text = [];
-    runs = subst (λ l. Runs Editor (IsReplied def) (point s before old) l [] (point s before old)) (sym is) rests;
+    runs = subst (λ l. Runs Editor (IsRepliedBy def write) (point s before old) l [] (point s before old)) (sym is) rests;
     put = sym (append_known-nil old.written);
   }
 
@@ -106,7 +106,7 @@ module _ (def : Definition) where
   module _ (all : List (List ℕ)) (rest after piece : List ℕ) (s : State) (old mid : World)
       (cut : kept_lines (slice_split is_feed rest) ≡ kept_lines (piece ∷ slice_split is_feed after))
       (h : SoFar def all rest s old mid) where
-    pub so_played : (t : State) (new : World) → PutsLines def (kept_lines (piece ∷ [])) s t h.reply mid new → SoFar def all after t old new
+    pub so_played : (t : State) (new : World) → PutsLines reply_text def (kept_lines (piece ∷ [])) s t h.reply mid new → SoFar def all after t old new
     so_played t new p = record {
       done = h.done ++ kept_lines (piece ∷ []);
       reply = p.reply;
@@ -117,7 +117,7 @@ module _ (def : Definition) where
     }
 
     pub so_stopped : (new : World) (status : Status) → old.count ≤ mid.count
-        → FinishesIn def (kept_lines (piece ∷ [])) s h.reply mid new status → Edits def all old new status
+        → FinishesIn reply_text def (kept_lines (piece ∷ [])) s h.reply mid new status → Edits def all old new status
     so_stopped new status less f =
         is_played h.done (f.line ∷ kept_lines (slice_split is_feed after)) h.texts (point s h.reply mid)
         (left_with all h.done rest after piece f.line cut h.left f.is_one) h.runs

@@ -5,12 +5,13 @@ use Rattle.std.proofs.lemmas.Fmt.{decimal_injective}
 use Rattle.psg_script.specs.Reading.{IsNumeralUpTo}
 use Rattle.std.specs.declared.alloc.Global.{Global}
 use Rattle.psg_terms.specs.Names.{Name}
+use Rattle.psg_run.specs.declared.framing.Framing.{Framing}
 use Rattle.psg_run.specs.declared.status.Status.{Status}
 use Rattle.psg_run.specs.declared.status.Status.TheVariants as ends_with
-use Rattle.psg_run.specs.Wanted.{formatting}
+use Rattle.psg_run.specs.Wanted.{formatting, living}
 use Rattle.psg_run.specs.Worlds.{World, texts_of}
 use Rattle.psg_run.specs.Arranging.{most_columns}
-use Rattle.psg_run.specs.Promise.{Form, check, edit, live, windows, gen, layout, itself, format, check_format, HasNoForm, IsForm, IsRunOf, IsRun}
+use Rattle.psg_run.specs.Promise.{Form, check, edit, framed, live, windows, gen, layout, itself, format, check_format, explain, HasNoForm, IsForm, IsRunOf, IsRun}
 
 pub two_words : (words : List (String Global)) (a b : String Global) → 2 ≤ length words → length words < 3 → a ≡ get_or words 0 a → b ≡ get_or words 1 b
     → texts_of words ≡ string_bytes a ∷ string_bytes b ∷ []
@@ -72,12 +73,14 @@ pub two_other : (a b : Name) → (a ≡ codes "check" → ⊥) → (a ≡ codes 
 two_other a b no_check no_live no_gen (check d) e = no_check cc
 two_other a b no_check no_live no_gen (edit d s) e = cc
 two_other a b no_check no_live no_gen (live d) e = no_live cc
+two_other a b no_check no_live no_gen (framed d) e = cc
 two_other a b no_check no_live no_gen (windows d s) e = cc
 two_other a b no_check no_live no_gen (gen n) (e, low, high) = no_gen cc
 two_other a b no_check no_live no_gen (layout d s l n) (e, low, high) = cc
 two_other a b no_check no_live no_gen (itself s f) e = cc
 two_other a b no_check no_live no_gen (format d k f) e = cc
 two_other a b no_check no_live no_gen (check_format d k f) e = cc
+two_other a b no_check no_live no_gen (explain d s) e = cc
 
 -- `gen` and a word that is no number of those for which a script is made
 pub no_number : (a b : Name) → a ≡ codes "gen" → ((n : ℕ) → IsNumeralUpTo 1000 n b → ⊥) → HasNoForm (a ∷ b ∷ [])
@@ -85,36 +88,42 @@ no_number a b is never (check d) e = not_check (sym is ∙ first_is a (codes "ch
 no_number a b is never (edit d s) e = cc
 no_number a b is never (windows d s) e = cc
 no_number a b is never (live d) e = not_live_gen (sym is ∙ first_is a (codes "live") (b ∷ []) (d ∷ []) e)
+no_number a b is never (framed d) e = cc
 no_number a b is never (gen n) (e, low, high) = never n ((omega (arith, high), second_is a (codes "gen") b (decimal n) e), low, high)
 no_number a b is never (layout d s l n) (e, low, high) = cc
 no_number a b is never (itself s f) e = cc
 no_number a b is never (format d k f) e = cc
 no_number a b is never (check_format d k f) e = cc
+no_number a b is never (explain d s) e = cc
 
 -- `gen` and a number
 pub number_wanted : (a b : Name) (n : ℕ) → a ≡ codes "gen" → IsNumeralUpTo 1000 n b → IsForm (a ∷ b ∷ []) (gen n)
 number_wanted a b n is (numeral, low, high) = (ap₂ (λ x y. x ∷ y ∷ []) is numeral.1, low, high)
 
 pub three_other : (a b c : Name) → (a ≡ codes "edit" → ⊥) → (a ≡ codes "windows" → ⊥) → (a ≡ codes "self" → ⊥)
-    → HasNoForm (a ∷ b ∷ c ∷ [])
-three_other a b c no_edit no_windows no_self (check d) e = cc
-three_other a b c no_edit no_windows no_self (edit d s) e = no_edit cc
-three_other a b c no_edit no_windows no_self (live d) e = cc
-three_other a b c no_edit no_windows no_self (windows d s) e = no_windows cc
-three_other a b c no_edit no_windows no_self (gen n) (e, low, high) = cc
-three_other a b c no_edit no_windows no_self (layout d s l n) (e, low, high) = cc
-three_other a b c no_edit no_windows no_self (itself s f) e = no_self cc
-three_other a b c no_edit no_windows no_self (format d k f) e = cc
-three_other a b c no_edit no_windows no_self (check_format d k f) e = cc
+    → (a ≡ codes "explain" → ⊥) → (a ≡ codes "live" → ⊥) → HasNoForm (a ∷ b ∷ c ∷ [])
+three_other a b c no_edit no_windows no_self no_explain no_live (check d) e = cc
+three_other a b c no_edit no_windows no_self no_explain no_live (edit d s) e = no_edit cc
+three_other a b c no_edit no_windows no_self no_explain no_live (live d) e = cc
+three_other a b c no_edit no_windows no_self no_explain no_live (framed d) e = no_live cc
+three_other a b c no_edit no_windows no_self no_explain no_live (windows d s) e = no_windows cc
+three_other a b c no_edit no_windows no_self no_explain no_live (gen n) (e, low, high) = cc
+three_other a b c no_edit no_windows no_self no_explain no_live (layout d s l n) (e, low, high) = cc
+three_other a b c no_edit no_windows no_self no_explain no_live (itself s f) e = no_self cc
+three_other a b c no_edit no_windows no_self no_explain no_live (explain d s) e = no_explain cc
+three_other a b c no_edit no_windows no_self no_explain no_live (format d k f) e = cc
+three_other a b c no_edit no_windows no_self no_explain no_live (check_format d k f) e = cc
 
 pub four_other : (a b c d : Name) → (a ≡ codes "format" → ⊥) → HasNoForm (a ∷ b ∷ c ∷ d ∷ [])
 four_other a b c d no_format (check x) e = cc
 four_other a b c d no_format (edit x y) e = cc
 four_other a b c d no_format (live x) e = cc
+four_other a b c d no_format (framed x) e = cc
 four_other a b c d no_format (windows x y) e = cc
 four_other a b c d no_format (gen n) (e, low, high) = cc
 four_other a b c d no_format (layout x y z n) (e, low, high) = cc
 four_other a b c d no_format (itself x y) e = cc
+four_other a b c d no_format (explain x y) e = cc
 four_other a b c d no_format (format x k f) e = no_format cc
 four_other a b c d no_format (check_format x k f) e = cc
 
@@ -124,10 +133,12 @@ pub five_other : (a b c d e : Name) → (a ≡ codes "layout" → ⊥) → (a �
 five_other a b c d e no_layout no_format (check x) p = cc
 five_other a b c d e no_layout no_format (edit x y) p = cc
 five_other a b c d e no_layout no_format (live x) p = cc
+five_other a b c d e no_layout no_format (framed x) p = cc
 five_other a b c d e no_layout no_format (windows x y) p = cc
 five_other a b c d e no_layout no_format (gen n) (p, low, high) = cc
 five_other a b c d e no_layout no_format (layout x y z n) (p, low, high) = no_layout cc
 five_other a b c d e no_layout no_format (itself x y) p = cc
+five_other a b c d e no_layout no_format (explain x y) p = cc
 five_other a b c d e no_layout no_format (format x k f) p = cc
 five_other a b c d e no_layout no_format (check_format x k f) p = no_format cc
 
@@ -140,24 +151,58 @@ pub no_columns : (a b c d e : Name) → a ≡ codes "layout" → ((n : ℕ) → 
 no_columns a b c d e is never (check x) p = cc
 no_columns a b c d e is never (edit x y) p = cc
 no_columns a b c d e is never (live x) p = cc
+no_columns a b c d e is never (framed x) p = cc
 no_columns a b c d e is never (windows x y) p = cc
 no_columns a b c d e is never (gen n) (p, low, high) = cc
 no_columns a b c d e is never (layout x y z n) (p, low, high) =
     let last : e ≡ decimal n = cc in
     never n ((omega (arith, high), last), low, high)
 no_columns a b c d e is never (itself x y) p = cc
+no_columns a b c d e is never (explain x y) p = cc
 no_columns a b c d e is never (format x k f) p = cc
 no_columns a b c d e is never (check_format x k f) p = let first : a ≡ codes "format" = cc in not_layout (sym first ∙ is)
+
+not_live_edit : codes "live" ≡ codes "edit" → ⊥
+not_live_edit e = true≢false (ap (λ w. bytes_eq w (codes "live")) e)
+
+not_live_windows : codes "live" ≡ codes "windows" → ⊥
+not_live_windows e = true≢false (ap (λ w. bytes_eq w (codes "live")) e)
+
+not_live_self : codes "live" ≡ codes "self" → ⊥
+not_live_self e = true≢false (ap (λ w. bytes_eq w (codes "live")) e)
+
+not_live_explain : codes "live" ≡ codes "explain" → ⊥
+not_live_explain e = true≢false (ap (λ w. bytes_eq w (codes "live")) e)
+
+-- `live`, and another word than `--framed` before the file
+pub no_frames : (a b c : Name) → a ≡ codes "live" → (b ≡ codes "--framed" → ⊥) → HasNoForm (a ∷ b ∷ c ∷ [])
+no_frames a b c is never (check d) e = cc
+no_frames a b c is never (edit d s) e = let first : a ≡ codes "edit" = cc in not_live_edit (sym is ∙ first)
+no_frames a b c is never (live d) e = cc
+no_frames a b c is never (framed d) e = never cc
+no_frames a b c is never (windows d s) e = let first : a ≡ codes "windows" = cc in not_live_windows (sym is ∙ first)
+no_frames a b c is never (gen n) (e, low, high) = cc
+no_frames a b c is never (layout d s l n) (e, low, high) = cc
+no_frames a b c is never (itself s f) e = let first : a ≡ codes "self" = cc in not_live_self (sym is ∙ first)
+no_frames a b c is never (format d k f) e = cc
+no_frames a b c is never (check_format d k f) e = cc
+no_frames a b c is never (explain d s) e = let first : a ≡ codes "explain" = cc in not_live_explain (sym is ∙ first)
+
+-- `live` and `--framed`
+pub frames_wanted : (a b c : Name) → a ≡ codes "live" → b ≡ codes "--framed" → IsForm (a ∷ b ∷ c ∷ []) (framed c)
+frames_wanted a b c is flag = ap₂ (λ x y. x ∷ y ∷ c ∷ []) is flag
 
 -- `format` and another word than `--check`
 pub no_check : (a b c d e : Name) → a ≡ codes "format" → (e ≡ codes "--check" → ⊥) → HasNoForm (a ∷ b ∷ c ∷ d ∷ e ∷ [])
 no_check a b c d e is never (check x) p = cc
 no_check a b c d e is never (edit x y) p = cc
 no_check a b c d e is never (live x) p = cc
+no_check a b c d e is never (framed x) p = cc
 no_check a b c d e is never (windows x y) p = cc
 no_check a b c d e is never (gen n) (p, low, high) = cc
 no_check a b c d e is never (layout x y z n) (p, low, high) = let first : a ≡ codes "layout" = cc in not_layout (sym is ∙ first)
 no_check a b c d e is never (itself x y) p = cc
+no_check a b c d e is never (explain x y) p = cc
 no_check a b c d e is never (format x k f) p = cc
 no_check a b c d e is never (check_format x k f) p = never cc
 
@@ -177,19 +222,23 @@ pub other_count : (words : List (String Global)) → (length words ≡ 2 → ⊥
 other_count [] two three four five (check d) e = cc
 other_count [] two three four five (edit d s) e = cc
 other_count [] two three four five (live d) e = cc
+other_count [] two three four five (framed d) e = cc
 other_count [] two three four five (windows d s) e = cc
 other_count [] two three four five (gen n) (e, low, high) = cc
 other_count [] two three four five (layout d s l n) (e, low, high) = cc
 other_count [] two three four five (itself s f) e = cc
+other_count [] two three four five (explain d s) e = cc
 other_count [] two three four five (format d k f) e = cc
 other_count [] two three four five (check_format d k f) e = cc
 other_count (x ∷ []) two three four five (check d) e = cc
 other_count (x ∷ []) two three four five (edit d s) e = cc
 other_count (x ∷ []) two three four five (live d) e = cc
+other_count (x ∷ []) two three four five (framed d) e = cc
 other_count (x ∷ []) two three four five (windows d s) e = cc
 other_count (x ∷ []) two three four five (gen n) (e, low, high) = cc
 other_count (x ∷ []) two three four five (layout d s l n) (e, low, high) = cc
 other_count (x ∷ []) two three four five (itself s f) e = cc
+other_count (x ∷ []) two three four five (explain d s) e = cc
 other_count (x ∷ []) two three four five (format d k f) e = cc
 other_count (x ∷ []) two three four five (check_format d k f) e = cc
 other_count (x ∷ y ∷ []) two three four five form e = absurd (two refl)
@@ -199,10 +248,12 @@ other_count (x ∷ y ∷ z ∷ w ∷ v ∷ []) two three four five form e = absu
 other_count (x ∷ y ∷ z ∷ w ∷ v ∷ u ∷ more) two three four five (check d) e = cc
 other_count (x ∷ y ∷ z ∷ w ∷ v ∷ u ∷ more) two three four five (edit d s) e = cc
 other_count (x ∷ y ∷ z ∷ w ∷ v ∷ u ∷ more) two three four five (live d) e = cc
+other_count (x ∷ y ∷ z ∷ w ∷ v ∷ u ∷ more) two three four five (framed d) e = cc
 other_count (x ∷ y ∷ z ∷ w ∷ v ∷ u ∷ more) two three four five (windows d s) e = cc
 other_count (x ∷ y ∷ z ∷ w ∷ v ∷ u ∷ more) two three four five (gen n) (e, low, high) = cc
 other_count (x ∷ y ∷ z ∷ w ∷ v ∷ u ∷ more) two three four five (layout d s l n) (e, low, high) = cc
 other_count (x ∷ y ∷ z ∷ w ∷ v ∷ u ∷ more) two three four five (itself s f) e = cc
+other_count (x ∷ y ∷ z ∷ w ∷ v ∷ u ∷ more) two three four five (explain d s) e = cc
 other_count (x ∷ y ∷ z ∷ w ∷ v ∷ u ∷ more) two three four five (format d k f) e = cc
 other_count (x ∷ y ∷ z ∷ w ∷ v ∷ u ∷ more) two three four five (check_format d k f) e = cc
 
@@ -231,6 +282,15 @@ not_self_windows e = true≢false (ap (λ w. bytes_eq w (codes "windows")) e)
 
 windows_is : (d s x y : Name) → codes "windows" ∷ d ∷ s ∷ [] ≡ codes "self" ∷ x ∷ y ∷ [] → codes "windows" ≡ codes "self"
 windows_is d s x y whole = cc
+
+not_explain : codes "edit" ≡ codes "explain" → ⊥
+not_explain e = true≢false (ap (λ w. bytes_eq w (codes "edit")) e)
+
+not_explain_windows : codes "windows" ≡ codes "explain" → ⊥
+not_explain_windows e = true≢false (ap (λ w. bytes_eq w (codes "windows")) e)
+
+not_explain_self : codes "self" ≡ codes "explain" → ⊥
+not_explain_self e = true≢false (ap (λ w. bytes_eq w (codes "self")) e)
 
 one_form : (words : List Name) (a b : Form) → IsForm words a → IsForm words b → a ≡ b
 one_form words (check d) (check e) p q = let whole : codes "check" ∷ d ∷ [] ≡ codes "check" ∷ e ∷ [] = sym p ∙ q in cc
@@ -290,7 +350,47 @@ one_form words (itself s f) (live d) p q = let whole : codes "self" ∷ s ∷ f 
 one_form words (itself s f) (gen n) p (q, low, high) = let whole : codes "self" ∷ s ∷ f ∷ [] ≡ codes "gen" ∷ decimal n ∷ [] = sym p ∙ q in cc
 one_form words (itself x f) (layout d s l n) p (q, low, high) = let whole : codes "self" ∷ x ∷ f ∷ [] ≡ codes "layout" ∷ d ∷ s ∷ l ∷ decimal n ∷ [] = sym p ∙ q in cc
 one_form words (itself s f) (itself x y) p q = let whole : codes "self" ∷ s ∷ f ∷ [] ≡ codes "self" ∷ x ∷ y ∷ [] = sym p ∙ q in cc
+one_form words (check d) (explain e s) p q = let whole : codes "check" ∷ d ∷ [] ≡ codes "explain" ∷ e ∷ s ∷ [] = sym p ∙ q in cc
+one_form words (explain e s) (check d) p q = let whole : codes "explain" ∷ e ∷ s ∷ [] ≡ codes "check" ∷ d ∷ [] = sym p ∙ q in cc
+one_form words (live d) (explain e s) p q = let whole : codes "live" ∷ d ∷ [] ≡ codes "explain" ∷ e ∷ s ∷ [] = sym p ∙ q in cc
+one_form words (explain e s) (live d) p q = let whole : codes "explain" ∷ e ∷ s ∷ [] ≡ codes "live" ∷ d ∷ [] = sym p ∙ q in cc
+one_form words (gen n) (explain d s) (p, low, high) q = let whole : codes "gen" ∷ decimal n ∷ [] ≡ codes "explain" ∷ d ∷ s ∷ [] = sym p ∙ q in cc
+one_form words (explain d s) (gen n) p (q, low, high) = let whole : codes "explain" ∷ d ∷ s ∷ [] ≡ codes "gen" ∷ decimal n ∷ [] = sym p ∙ q in cc
+one_form words (layout d s l n) (explain x y) (p, low, high) q = let whole : codes "layout" ∷ d ∷ s ∷ l ∷ decimal n ∷ [] ≡ codes "explain" ∷ x ∷ y ∷ [] = sym p ∙ q in cc
+one_form words (explain x y) (layout d s l n) p (q, low, high) = let whole : codes "explain" ∷ x ∷ y ∷ [] ≡ codes "layout" ∷ d ∷ s ∷ l ∷ decimal n ∷ [] = sym p ∙ q in cc
+one_form words (edit d s) (explain x y) p q = absurd (not_explain (first_is (codes "edit") (codes "explain") (d ∷ s ∷ []) (x ∷ y ∷ []) (sym p ∙ q)))
+one_form words (explain x y) (edit d s) p q = absurd (not_explain (first_is (codes "edit") (codes "explain") (d ∷ s ∷ []) (x ∷ y ∷ []) (sym q ∙ p)))
+one_form words (windows d s) (explain x y) p q = absurd (not_explain_windows (first_is (codes "windows") (codes "explain") (d ∷ s ∷ []) (x ∷ y ∷ []) (sym p ∙ q)))
+one_form words (explain x y) (windows d s) p q = absurd (not_explain_windows (first_is (codes "windows") (codes "explain") (d ∷ s ∷ []) (x ∷ y ∷ []) (sym q ∙ p)))
+one_form words (itself d s) (explain x y) p q = absurd (not_explain_self (first_is (codes "self") (codes "explain") (d ∷ s ∷ []) (x ∷ y ∷ []) (sym p ∙ q)))
+one_form words (explain x y) (itself d s) p q = absurd (not_explain_self (first_is (codes "self") (codes "explain") (d ∷ s ∷ []) (x ∷ y ∷ []) (sym q ∙ p)))
+one_form words (format d k f) (explain x y) p q = let whole : codes "format" ∷ d ∷ k ∷ f ∷ [] ≡ codes "explain" ∷ x ∷ y ∷ [] = sym p ∙ q in cc
+one_form words (explain x y) (format d k f) p q = let whole : codes "explain" ∷ x ∷ y ∷ [] ≡ codes "format" ∷ d ∷ k ∷ f ∷ [] = sym p ∙ q in cc
+one_form words (check_format d k f) (explain x y) p q = let whole : codes "format" ∷ d ∷ k ∷ f ∷ codes "--check" ∷ [] ≡ codes "explain" ∷ x ∷ y ∷ [] = sym p ∙ q in cc
+one_form words (explain x y) (check_format d k f) p q = let whole : codes "explain" ∷ x ∷ y ∷ [] ≡ codes "format" ∷ d ∷ k ∷ f ∷ codes "--check" ∷ [] = sym p ∙ q in cc
+one_form words (explain d s) (explain x y) p q = let whole : codes "explain" ∷ d ∷ s ∷ [] ≡ codes "explain" ∷ x ∷ y ∷ [] = sym p ∙ q in cc
 one_form words (live d) (live e) p q = let whole : codes "live" ∷ d ∷ [] ≡ codes "live" ∷ e ∷ [] = sym p ∙ q in cc
+one_form words (check d) (framed x) p q = let whole : codes "check" ∷ d ∷ [] ≡ codes "live" ∷ codes "--framed" ∷ x ∷ [] = sym p ∙ q in cc
+one_form words (framed x) (check d) p q = let whole : codes "live" ∷ codes "--framed" ∷ x ∷ [] ≡ codes "check" ∷ d ∷ [] = sym p ∙ q in cc
+one_form words (live d) (framed x) p q = let whole : codes "live" ∷ d ∷ [] ≡ codes "live" ∷ codes "--framed" ∷ x ∷ [] = sym p ∙ q in cc
+one_form words (framed x) (live d) p q = let whole : codes "live" ∷ codes "--framed" ∷ x ∷ [] ≡ codes "live" ∷ d ∷ [] = sym p ∙ q in cc
+one_form words (layout d s l n) (framed x) (p, low, high) q = let whole : codes "layout" ∷ d ∷ s ∷ l ∷ decimal n ∷ [] ≡ codes "live" ∷ codes "--framed" ∷ x ∷ [] = sym p ∙ q in cc
+one_form words (framed x) (layout d s l n) p (q, low, high) = let whole : codes "live" ∷ codes "--framed" ∷ x ∷ [] ≡ codes "layout" ∷ d ∷ s ∷ l ∷ decimal n ∷ [] = sym p ∙ q in cc
+one_form words (gen n) (framed x) (p, low, high) q = let whole : codes "gen" ∷ decimal n ∷ [] ≡ codes "live" ∷ codes "--framed" ∷ x ∷ [] = sym p ∙ q in cc
+one_form words (framed x) (gen n) p (q, low, high) = let whole : codes "live" ∷ codes "--framed" ∷ x ∷ [] ≡ codes "gen" ∷ decimal n ∷ [] = sym p ∙ q in cc
+one_form words (format d k f) (framed x) p q = let whole : codes "format" ∷ d ∷ k ∷ f ∷ [] ≡ codes "live" ∷ codes "--framed" ∷ x ∷ [] = sym p ∙ q in cc
+one_form words (framed x) (format d k f) p q = let whole : codes "live" ∷ codes "--framed" ∷ x ∷ [] ≡ codes "format" ∷ d ∷ k ∷ f ∷ [] = sym p ∙ q in cc
+one_form words (check_format d k f) (framed x) p q = let whole : codes "format" ∷ d ∷ k ∷ f ∷ codes "--check" ∷ [] ≡ codes "live" ∷ codes "--framed" ∷ x ∷ [] = sym p ∙ q in cc
+one_form words (framed x) (check_format d k f) p q = let whole : codes "live" ∷ codes "--framed" ∷ x ∷ [] ≡ codes "format" ∷ d ∷ k ∷ f ∷ codes "--check" ∷ [] = sym p ∙ q in cc
+one_form words (edit d s) (framed x) p q = absurd (not_live_edit (first_is (codes "live") (codes "edit") (codes "--framed" ∷ x ∷ []) (d ∷ s ∷ []) (sym q ∙ p)))
+one_form words (framed x) (edit d s) p q = absurd (not_live_edit (first_is (codes "live") (codes "edit") (codes "--framed" ∷ x ∷ []) (d ∷ s ∷ []) (sym p ∙ q)))
+one_form words (windows d s) (framed x) p q = absurd (not_live_windows (first_is (codes "live") (codes "windows") (codes "--framed" ∷ x ∷ []) (d ∷ s ∷ []) (sym q ∙ p)))
+one_form words (framed x) (windows d s) p q = absurd (not_live_windows (first_is (codes "live") (codes "windows") (codes "--framed" ∷ x ∷ []) (d ∷ s ∷ []) (sym p ∙ q)))
+one_form words (itself d s) (framed x) p q = absurd (not_live_self (first_is (codes "live") (codes "self") (codes "--framed" ∷ x ∷ []) (d ∷ s ∷ []) (sym q ∙ p)))
+one_form words (framed x) (itself d s) p q = absurd (not_live_self (first_is (codes "live") (codes "self") (codes "--framed" ∷ x ∷ []) (d ∷ s ∷ []) (sym p ∙ q)))
+one_form words (explain d s) (framed x) p q = absurd (not_live_explain (first_is (codes "live") (codes "explain") (codes "--framed" ∷ x ∷ []) (d ∷ s ∷ []) (sym q ∙ p)))
+one_form words (framed x) (explain d s) p q = absurd (not_live_explain (first_is (codes "live") (codes "explain") (codes "--framed" ∷ x ∷ []) (d ∷ s ∷ []) (sym p ∙ q)))
+one_form words (framed x) (framed y) p q = let whole : codes "live" ∷ codes "--framed" ∷ x ∷ [] ≡ codes "live" ∷ codes "--framed" ∷ y ∷ [] = sym p ∙ q in cc
 one_form words (check d) (format x k y) p q = let whole : codes "check" ∷ d ∷ [] ≡ codes "format" ∷ x ∷ k ∷ y ∷ [] = sym p ∙ q in cc
 one_form words (format x k y) (check d) p q = let whole : codes "format" ∷ x ∷ k ∷ y ∷ [] ≡ codes "check" ∷ d ∷ [] = sym p ∙ q in cc
 one_form words (edit d s) (format x k y) p q = let whole : codes "edit" ∷ d ∷ s ∷ [] ≡ codes "format" ∷ x ∷ k ∷ y ∷ [] = sym p ∙ q in cc
@@ -345,8 +445,9 @@ module _ (words : List Name) (old new : World) (status : Status) where
       → IsRun words old new status
   of_windows definition script is ran = of_form (windows definition script) is ran
 
-  pub of_live : (definition : Name) → words ≡ codes "live" ∷ definition ∷ [] → IsRunOf (live definition) old new status → IsRun words old new status
-  of_live definition is ran = of_form (live definition) is ran
+  pub of_live : (framing : Framing) (definition : Name) → IsForm words (living framing definition)
+      → IsRunOf (living framing definition) old new status → IsRun words old new status
+  of_live framing definition is ran = of_form (living framing definition) is ran
 
   pub of_gen : (number : ℕ) → IsForm words (gen number) → IsRunOf (gen number) old new status → IsRun words old new status
   of_gen number is ran = of_form (gen number) is ran
@@ -362,6 +463,10 @@ module _ (words : List Name) (old new : World) (status : Status) where
   pub of_format : (checks : Bool) (definition kind program : Name) → IsForm words (formatting checks definition kind program)
       → IsRunOf (formatting checks definition kind program) old new status → IsRun words old new status
   of_format checks definition kind program is ran = of_form (formatting checks definition kind program) is ran
+
+  pub of_explain : (definition script : Name) → words ≡ codes "explain" ∷ definition ∷ script ∷ [] → IsRunOf (explain definition script) old new status
+      → IsRun words old new status
+  of_explain definition script is ran = of_form (explain definition script) is ran
 
   -- words of a form are not of none
   pub has_form : (form : Form) → IsForm words form → HasNoForm words → ⊥

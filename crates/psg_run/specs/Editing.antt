@@ -30,9 +30,13 @@ module _ (def : Definition) where
     pub breaks : HasBroken def s.state.state line s.files t.files s.ticks t.ticks
     pub input : t.input ≡ s.input
 
+  -- the reply to the line is put, as it is written by this
+  abbrev pub IsRepliedBy : (Reply → List ℕ) → Point Editor → List ℕ → List ℕ → Point Editor → Type 0
+  IsRepliedBy write s line text t = IsNext s line t × (text ≡ write t.state.reply)
+
   -- the reply to the line is put
   abbrev pub IsReplied : Point Editor → List ℕ → List ℕ → Point Editor → Type 0
-  IsReplied s line text t = IsNext s line t × (text ≡ reply_text t.state.reply)
+  IsReplied = IsRepliedBy reply_text
 
   -- nothing is put for the line
   abbrev pub IsSilent : Point Editor → List ℕ → List ℕ → Point Editor → Type 0

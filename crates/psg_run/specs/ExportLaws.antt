@@ -1,12 +1,14 @@
--- `self` writes no file but its own, after the commands of its script.
-use Rattle.std.specs.Prelude.{ℕ, ◌≡◌, ◌++◌, ◌⊎◌, List, option_map}
+-- `self` writes no file but its own, after the commands of its script; and its runs over the same files are alike.
+use Rattle.std.specs.Prelude.{ℕ, ◌≡◌, ◌++◌, ◌⊎◌, List, Some, option_map}
 use Rattle.std.specs.FinMap as map
+use Rattle.std.specs.Io.KnownBytes.{append_known}
 use Rattle.psg_langs.specs.declared.named.TheConstants.{SELF}
 use Rattle.psg_terms.specs.Names.{Name}
 use Rattle.psg_grammar.specs.declared.types.Definition.{Definition}
 use Rattle.psg_world.specs.Files.{Held}
 use Rattle.psg_session.specs.Exchanges.{Outside}
 use Rattle.psg_run.specs.declared.status.Status.{Status}
+use Rattle.psg_run.specs.declared.status.Status.TheVariants as ends_with
 use Rattle.psg_run.specs.Chain.{Point, Runs, first_point}
 use Rattle.psg_run.specs.Editing.{Editor, IsSilent, new_editor}
 use Rattle.psg_run.specs.Promise.{IsRunOf, itself}
@@ -40,3 +42,13 @@ pub record HoldsOthersSince (script file : Name) (old new : World) : Type 0 wher
 abbrev pub WritesNoOther : Type 0
 WritesNoOther = (script file : Name) (old new : World) (status : Status) → IsRunOf (itself script file) old new status
     → (new.files.held ≡ old.files.held) ⊎ HoldsOthersSince script file old new
+
+-- The definition is that of the language of definitions. Two runs of `self` with one script and one file that ended
+-- well, over files that held the same and none of whose calls failed, wrote the same and left the same in the files.
+abbrev pub HasOneExport : Definition → Type 0
+HasOneExport def = IsAccepted SELF.now def → (script file : Name) (held : Held) (old new old' new' : World)
+    → IsRunOf (itself script file) old new ends_with.Done → IsRunOf (itself script file) old' new' ends_with.Done
+    → old.files.held ≡ Some held → old'.files.held ≡ Some held
+    → new.files.entries ≡ old.files.entries → new'.files.entries ≡ old'.files.entries
+    → (output : List ℕ) × (new.written ≡ append_known old.written output)
+    × (new'.written ≡ append_known old'.written output) × (new'.files.held ≡ new.files.held)

@@ -2,6 +2,7 @@ pub mod Worlds
 pub mod Chain
 pub mod Scripts
 pub mod Editing
+pub mod Framed
 pub mod Live
 pub mod Windowed
 pub mod Generated
@@ -9,6 +10,7 @@ pub mod Reading
 pub mod Arranging
 pub mod Exporting
 pub mod Formatting
+pub mod Explaining
 pub mod Promise
 pub mod Codes
 pub mod Endings

@@ -32,6 +32,7 @@ use Rattle.psg_run.specs.Editing.{Editor, IsReplied, new_editor}
 use Rattle.psg_run.specs.Live.{IsRepliedLive, heard, with_input}
 use Rattle.psg_run.specs.Formatting.{most_program_bytes}
 use Rattle.psg_run.specs.Promise.{Form, IsRunOf, check, edit, live, windows, gen, layout, itself, format, check_format}
+use Rattle.psg_run.specs.Promise.{explain, framed}
 use Rattle.psg_run.specs.Reading.{IsAccepted, most_definition_bytes, most_script_bytes}
 use Rattle.psg_run.specs.Worlds.{IsFrontOf, World, with_failed_read}
 
@@ -196,6 +197,9 @@ GoesWell (edit d s) old new = ScriptGoesWell old new d s × (HasRisen old.count 
 GoesWell (live d) old new =
     HasDefinition old d × WasRead old new d × (new.input.missed ≡ old.input.missed)
     × (HasRisen old.count new.count → ⊥)
+GoesWell (framed d) old new =
+    HasDefinition old d × WasRead old new d × (new.input.missed ≡ old.input.missed)
+    × (HasRisen old.count new.count → ⊥)
 GoesWell (windows d s) old new = ScriptGoesWell old new d s × (HasRisen old.count new.count → ⊥)
 GoesWell (gen number) old new =
     ((def : Definition) × IsAccepted MINI.now def) × (HasRisen old.count new.count → ⊥)
@@ -210,6 +214,7 @@ GoesWell (format d k p) old new =
 GoesWell (check_format d k p) old new =
     HasDefinition old d × WasRead old new d × HasProgram old d k p true × WasRead old new p
     × (HasRisen old.count new.count → ⊥)
+GoesWell (explain d s) old new = ScriptGoesWell old new d s × (HasRisen old.count new.count → ⊥)
 
 -- Where nothing goes wrong outside, the run ends well, or memory ran out.
 abbrev pub EndsWell : Type 0

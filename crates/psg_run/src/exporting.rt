@@ -14,7 +14,6 @@ ghost use Rattle.psg_run.specs.Promise.{IsRunOf, itself as itself_of};
 ghost use Rattle.psg_run.specs.Reading.{IsRefusalLine, Reads, most_script_bytes};
 ghost use Rattle.psg_run.specs.Scripts.{script_lines};
 ghost use Rattle.psg_run.specs.Worlds.{Incoming, seen};
-ghost use Rattle.psg_script.specs.Forms.{steps_text};
 ghost use Rattle.psg_self.specs.Export.{IsExportFault, exported};
 ghost use Rattle.psg_self.specs.SelfLanguage.{IsSelf};
 ghost use Rattle.psg_session.specs.Marked.{path_text};
@@ -24,6 +23,7 @@ ghost use Rattle.psg_session.specs.Sessions.{state_of};
 ghost use Rattle.psg_specimen.specs.Refusal.{Refuses};
 
 use crate::limits::MOST_SCRIPT_BYTES;
+use crate::paths::push_path;
 use crate::silent::apply_all;
 use crate::source::{language_of, put_line, read_within, write_status};
 use crate::status::Status;
@@ -37,29 +37,14 @@ use psg_terms::{Steps, uncountable};
 use psg_tree::{Path, Shape, Tree};
 use psg_world::{Files, Sink, WriteStop, put_all};
 use std::alloc::{AllocError, Global};
-use std::fmt::Write;
 use std::sync::ledger::Ledger;
-
-/// Writes each step after a slash.
-fn push_steps(line: &mut String, steps: &[u32]) -> Result<(), AllocError>
-    ensures { IfOk result (λ _. string_bytes line.new ≡ string_bytes line.old ++ steps_text steps.now) }
-{
-    for step in steps {
-        write!(line, "/{step}")?;
-    }
-    Ok(())
-}
 
 /// Writes the line that names the first open place of a program, with its line feed.
 fn unfinished_line(alloc: Global, path: &Path) -> Result<String, AllocError>
     ensures { IfOk result (λ line. string_bytes line ≡ feed (codes "unfinished " ++ path_text path.now)) }
 {
-    let steps = path.steps();
-    if steps.is_empty() {
-        return String::from_str(alloc, "unfinished /\n");
-    }
     let mut line = String::from_str(alloc, "unfinished ")?;
-    push_steps(&mut line, steps)?;
+    push_path(&mut line, path)?;
     line.push_str("\n")?;
     Ok(line)
 }

@@ -6,7 +6,7 @@ ghost use Rattle.psg_grammar.specs.Sound.{IsSound};
 ghost use Rattle.psg_grammar.specs.WellFormed.{fixed_words};
 ghost use Rattle.psg_grammar.specs.declared.types.Definition.{Definition as Plain};
 ghost use Rattle.psg_lexis.specs.Tokens.{IsFixedWord};
-ghost use Rattle.psg_run.specs.ExportLaws.{WritesNoOther};
+ghost use Rattle.psg_run.specs.ExportLaws.{HasOneExport, WritesNoOther};
 ghost use Rattle.psg_run.specs.FormatLaws.{FormatsOnce};
 ghost use Rattle.psg_run.specs.Outputs.{ArrangedReadsBack, EndsWell, HasOneOutput, HasOneRun, HasSomeOutput};
 ghost use Rattle.psg_run.specs.Outputs.{KeepsForms, LeavesFiles, RepliesAlike};
@@ -15,6 +15,7 @@ ghost use Rattle.psg_run.specs.WindowLaws.{HasOneWindowOutput, HasSomeWindowOutp
 ghost use Rattle.psg_run.specs.WindowLaws.{RefusalsMoveNothing, WindowsArePlain, WindowsStandAtNodes};
 ghost use Rattle.psg_specimen.specs.Refusal.{IsAccepted};
 
+use psg_defread::laws::one_fault;
 use psg_grammar::Definition;
 
 /// States that the plain editor gives each script one output, where no text is read as two trees. The call has no
@@ -79,6 +80,17 @@ pub fn gen_leaves_files()
 pub fn self_writes_no_other()
     ensures { WritesNoOther }
 {}
+
+/// States that two runs of `self` with one script and one file, with status 0 and over files that held the same, write
+/// the same and leave the same files, if no call of the files failed. The definition is that of the language of
+/// definitions, if it is accepted. The call has no cost.
+pub fn one_export(definition: &Definition)
+    requires sound { IsSound definition.now }
+    requires class { IsClass definition.now }
+    ensures { HasOneExport definition.now }
+{
+    one_fault();
+}
 
 /// States that two runs of `edit` on the definition, or two of `windows`, or two of `layout`, with status 0 and over
 /// files that held the same, write the same and leave the same files, if no call of the files failed. The call has no

@@ -1,11 +1,13 @@
 //! A session whose lines are read from the input one by one.
 ghost use Rattle.std.specs.Prelude.{◌≡◌};
-ghost use Rattle.psg_run.specs.Live.{Talks, heard as heard_of};
+ghost use Rattle.psg_run.specs.Framed.{written_by};
+ghost use Rattle.psg_run.specs.Live.{TalksBy, heard as heard_of};
 ghost use Rattle.psg_run.specs.Playing.{AreOf};
 ghost use Rattle.psg_run.specs.Worlds.{coming, seen};
 ghost use Rattle.psg_session.specs.PlainState.{start};
 ghost use Rattle.psg_session.specs.Sessions.{state_of};
 
+use crate::framing::Framing;
 use crate::limits::MOST_LINE_BYTES;
 use crate::lines::kept;
 use crate::play::play_some;
@@ -29,17 +31,18 @@ fn heard(piece: &[u8]) -> Option<&[u8]>
 }
 
 /// Plays the lines of the input on the session, and returns how that ended. The reply to each line is put before the
-/// next one is read. After 2^64 - 1 lines it ends as where memory runs out.
+/// next one is read, framed or not. After 2^64 - 1 lines it ends as where memory runs out.
 pub fn talk<F: Files, I: Input, O: Sink, L: Ledger>(
     alloc: Global,
     session: &mut Session,
+    framing: Framing,
     files: &mut F,
     input: &mut I,
     out: &mut O,
     steps: &mut Steps<L>,
 ) -> Status
     requires start { state_of session.old.editor ≡ start }
-    ensures { Talks session.old.language
+    ensures { TalksBy (written_by framing) session.old.language
         (seen (F.holds files.old) (F.faults files.old)
         (coming (I.lines input.old) (I.given input.old) (I.missed input.old))
         steps.old (O.written out.old) (O.faults out.old))
@@ -51,7 +54,7 @@ pub fn talk<F: Files, I: Input, O: Sink, L: Ledger>(
         match input.next_line(alloc, MOST_LINE_BYTES) {
             Ok(Some(piece)) => {
                 let line = heard(piece.as_slice());
-                if let Err(status) = play_some(alloc, session, line, files, out, steps) {
+                if let Err(status) = play_some(alloc, session, framing, line, files, out, steps) {
                     return status;
                 }
             }

@@ -1,6 +1,7 @@
 //! A script played on a session.
 ghost use Rattle.std.specs.Prelude.{◌≡◌, ◌≤◌, ◌∷◌, [], ℕ, List, OnOk, IfErr};
 ghost use Rattle.psg_run.specs.Editing.{Edits};
+ghost use Rattle.psg_run.specs.Framed.{written_by};
 ghost use Rattle.psg_run.specs.Playing.{AreOf, FinishesAt, FinishesIn, PutsLines, PutsReply};
 ghost use Rattle.psg_run.specs.Scripts.{script_lines};
 ghost use Rattle.psg_run.specs.Worlds.{Incoming, seen};
@@ -8,31 +9,33 @@ ghost use Rattle.psg_session.specs.PlainState.{start};
 ghost use Rattle.psg_session.specs.Replies.{Reply as PlainReply};
 ghost use Rattle.psg_session.specs.Sessions.{state_of};
 
+use crate::framing::{Framing, written};
 use crate::lines::{cut_line, kept};
 use crate::source::write_status;
 use crate::status::Status;
-use psg_session::{Session, reply_lines};
+use psg_session::Session;
 use psg_terms::Steps;
 use psg_world::{Files, Sink, put_all};
 use std::alloc::Global;
 use std::sync::ledger::Ledger;
 
-/// Plays a line on the session, and puts the reply. Otherwise it returns the status with which the run ends: a write
+/// Plays a line on the session, and puts the reply, framed or not. Otherwise it returns the status with which the run ends: a write
 /// fault, or out of memory. A front of the reply may be put then.
 fn play_line<F: Files, O: Sink, L: Ledger>(
     alloc: Global,
     session: &mut Session,
+    framing: Framing,
     line: &[u8],
     files: &mut F,
     out: &mut O,
     steps: &mut Steps<L>,
 ) -> Result<(), Status>
-    ensures ok { OnOk result ((input : Incoming) (before : PlainReply) → PutsReply session.old.language line.now
+    ensures ok { OnOk result ((input : Incoming) (before : PlainReply) → PutsReply (written_by framing) session.old.language line.now
         (state_of session.old.editor) (state_of session.new.editor) before
         (seen (F.holds files.old) (F.faults files.old) input steps.old (O.written out.old) (O.faults out.old))
         (seen (F.holds files.new) (F.faults files.new) input steps.new (O.written out.new) (O.faults out.new))) }
     ensures err { IfErr result (λ status. (input : Incoming) (before : PlainReply) (rest : List (List ℕ))
-        → FinishesAt session.old.language (state_of session.old.editor) before (line.now ∷ rest)
+        → FinishesAt (written_by framing) session.old.language (state_of session.old.editor) before (line.now ∷ rest)
         (seen (F.holds files.old) (F.faults files.old) input steps.old (O.written out.old) (O.faults out.old))
         (seen (F.holds files.new) (F.faults files.new) input steps.new (O.written out.new) (O.faults out.new)) status) }
     ensures language { session.new.language ≡ session.old.language }
@@ -42,7 +45,7 @@ fn play_line<F: Files, O: Sink, L: Ledger>(
         Ok(reply) => reply,
         Err(_) => return Err(Status::Memory),
     };
-    let Ok(text) = reply_lines(alloc, &reply) else {
+    let Ok(text) = written(alloc, framing, &reply) else {
         return Err(Status::Memory);
     };
     match put_all(alloc, out, text.as_bytes()) {
@@ -56,24 +59,25 @@ fn play_line<F: Files, O: Sink, L: Ledger>(
 pub fn play_some<F: Files, O: Sink, L: Ledger>(
     alloc: Global,
     session: &mut Session,
+    framing: Framing,
     line: Option<&[u8]>,
     files: &mut F,
     out: &mut O,
     steps: &mut Steps<L>,
 ) -> Result<(), Status>
     ensures ok { OnOk result ((input : Incoming) (before : PlainReply) (lines : List (List ℕ)) → AreOf lines line.entry
-        → PutsLines session.old.language lines (state_of session.old.editor) (state_of session.new.editor) before
+        → PutsLines (written_by framing) session.old.language lines (state_of session.old.editor) (state_of session.new.editor) before
         (seen (F.holds files.old) (F.faults files.old) input steps.old (O.written out.old) (O.faults out.old))
         (seen (F.holds files.new) (F.faults files.new) input steps.new (O.written out.new) (O.faults out.new))) }
     ensures err { IfErr result (λ status. (input : Incoming) (before : PlainReply) (lines : List (List ℕ))
-        → AreOf lines line.entry → FinishesIn session.old.language lines (state_of session.old.editor) before
+        → AreOf lines line.entry → FinishesIn (written_by framing) session.old.language lines (state_of session.old.editor) before
         (seen (F.holds files.old) (F.faults files.old) input steps.old (O.written out.old) (O.faults out.old))
         (seen (F.holds files.new) (F.faults files.new) input steps.new (O.written out.new) (O.faults out.new)) status) }
     ensures language { session.new.language ≡ session.old.language }
     ensures never_falls { O.faults out.old ≤ O.faults out.new }
 {
     match line {
-        Some(line) => play_line(alloc, session, line, files, out, steps),
+        Some(line) => play_line(alloc, session, framing, line, files, out, steps),
         None => Ok(()),
     }
 }
@@ -97,7 +101,8 @@ pub fn play<F: Files, O: Sink, L: Ledger>(
     let mut rest = script;
     while !rest.is_empty() {
         let cut = cut_line(rest);
-        if let Err(status) = play_some(alloc, session, kept(cut.line), files, out, steps) {
+        let line = kept(cut.line);
+        if let Err(status) = play_some(alloc, session, Framing::Plain, line, files, out, steps) {
             return status;
         }
         rest = cut.rest;

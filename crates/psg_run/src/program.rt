@@ -2,17 +2,19 @@
 ghost use Rattle.std.specs.Prelude.{ℕ, ◌≡◌, map, string_bytes};
 ghost use Rattle.psg_run.specs.Arranging.{ArrangesBy};
 ghost use Rattle.psg_run.specs.Editing.{Edits};
-ghost use Rattle.psg_run.specs.Live.{Talks};
 ghost use Rattle.psg_run.specs.Promise.{HasNoForm, IsRun, IsRunOf, check as check_of, edit as edit_of};
-ghost use Rattle.psg_run.specs.Promise.{layout as layout_of, live as live_of, windows as windows_of};
+ghost use Rattle.psg_run.specs.Promise.{layout as layout_of, windows as windows_of};
 ghost use Rattle.psg_run.specs.Reading.{Reads, most_script_bytes};
 ghost use Rattle.psg_run.specs.Scripts.{script_lines};
+ghost use Rattle.psg_run.specs.Wanted.{living};
 ghost use Rattle.psg_run.specs.Windowed.{PlaysWindows};
 ghost use Rattle.psg_run.specs.Worlds.{Incoming, coming, seen, texts_of};
 
 use crate::arranging::arrange_by;
+use crate::explaining::explain_script;
 use crate::exporting::export_self;
 use crate::formatting::format_file;
+use crate::framing::Framing;
 use crate::generating::generate;
 use crate::limits::MOST_SCRIPT_BYTES;
 use crate::live::talk;
@@ -166,17 +168,18 @@ fn windows<F: Files, O: Sink, L: Ledger>(
     play_window_file(alloc, language, script, files, out, steps)
 }
 
-/// Plays the lines of the input on the definition. The order of tests is: the definition is read, its length, whether
+/// Plays the lines of the input on the definition, with the replies framed or not. The order of tests is: the definition is read, its length, whether
 /// it is one, whether it is accepted, then the lines as they are read.
 fn live<F: Files, I: Input, O: Sink, L: Ledger>(
     alloc: Global,
     definition: &str,
+    framing: Framing,
     files: &mut F,
     input: &mut I,
     out: &mut O,
     steps: &mut Steps<L>,
 ) -> Status
-    ensures { IsRunOf (live_of definition.now)
+    ensures { IsRunOf (living framing definition.now)
         (seen (F.holds files.old) (F.faults files.old)
         (coming (I.lines input.old) (I.given input.old) (I.missed input.old))
         steps.old (O.written out.old) (O.faults out.old))
@@ -191,7 +194,7 @@ fn live<F: Files, I: Input, O: Sink, L: Ledger>(
     let Ok(mut session) = Session::new(alloc, language) else {
         return Status::Memory;
     };
-    talk(alloc, &mut session, files, input, out, steps)
+    talk(alloc, &mut session, framing, files, input, out, steps)
 }
 
 /// Arranges the program of a script by a layout. The order of tests is: the definition is read, its length, whether it
@@ -222,15 +225,18 @@ fn layout<F: Files, O: Sink, L: Ledger>(
 /// Does what the words say, and returns how that ended; `Status` says when each ending is returned. `check DEF` says in
 /// one line whether the file DEF has a definition that is accepted. `edit DEF SCRIPT` plays each line of the file
 /// SCRIPT, a command, on an editor of the definition; the replies go to `out`. `live DEF` plays the lines of the input
-/// likewise, and puts the reply to each before it reads the next one. `windows DEF SCRIPT` plays the lines of a file
+/// likewise, and puts the reply to each before it reads the next one; `live --framed DEF` puts a line with the number of
+/// its lines before each reply. `windows DEF SCRIPT` plays the lines of a file
 /// for eight windows, each with a cursor of its own: a line is a digit from 0 to 7, a space and a command. `gen N` plays
 /// a script that is made for the number N, from 1 to 1,000, on the language MINI, and writes five lines of the program
 /// then. `layout DEF SCRIPT LAY COLS` plays a script as `edit` does, but in silence. Then it writes the opened program,
 /// arranged by the file LAY for COLS columns, from 1 to 400, or `none` if nothing is opened. `self SCRIPT OUT` plays a
 /// script in silence on the language of definitions, writes the definition that is opened then to the file OUT, and says
 /// whether it is accepted. `format DEF KIND FILE` writes the text that the file FILE is to have, which has a program of
-/// the kind KIND, and `format DEF KIND FILE --check` says in which line it does not have it first. `steps` counts evaluations of nodes and list suffixes: a command evaluates what is new and
-/// what is above it.
+/// the kind KIND, and `format DEF KIND FILE --check` says in which line it does not have it first. `explain DEF SCRIPT`
+/// plays a script in silence and says why the opened program has no completion: the first node without one, its first
+/// step without rows, and why that has none. `steps` counts evaluations of nodes and list suffixes: a command evaluates
+/// what is new and what is above it.
 pub fn run<F: Files, I: Input, O: Sink, L: Ledger>(
     alloc: Global,
     words: &[String],
@@ -258,7 +264,12 @@ pub fn run<F: Files, I: Input, O: Sink, L: Ledger>(
         Some(Form::Windows { definition, script }) => {
             windows(alloc, definition, script, files, out, steps)
         }
-        Some(Form::Live { definition }) => live(alloc, definition, files, input, out, steps),
+        Some(
+            Form::Live {
+                definition,
+                framing,
+            },
+        ) => { live(alloc, definition, framing, files, input, out, steps) }
         Some(Form::Gen { number }) => generate(alloc, number, files, out, steps),
         Some(
             Form::Layout {
@@ -277,6 +288,9 @@ pub fn run<F: Files, I: Input, O: Sink, L: Ledger>(
                 checks,
             },
         ) => { format_file(alloc, definition, kind, program, checks, files, out, steps) }
+        Some(Form::Explain { definition, script }) => {
+            explain_script(alloc, definition, script, files, out, steps)
+        }
         None => Status::Words,
     }
 }

@@ -5,6 +5,7 @@ ghost use Rattle.psg_run.specs.Promise.{HasNoForm};
 ghost use Rattle.psg_run.specs.Wanted.{IsWanted};
 ghost use Rattle.psg_run.specs.Worlds.{texts_of};
 
+use crate::framing::Framing;
 use crate::limits::{MOST_COLUMNS, MOST_GENERATED};
 use psg_script::read_up_to;
 
@@ -20,9 +21,10 @@ pub enum Form<'a> {
         definition: &'a str,
         script: &'a str,
     },
-    /// `live DEF`
+    /// `live DEF`, and where replies are framed `live --framed DEF`
     Live {
         definition: &'a str,
+        framing: Framing,
     },
     /// `windows DEF SCRIPT`
     Windows {
@@ -52,6 +54,11 @@ pub enum Form<'a> {
         program: &'a str,
         checks: bool,
     },
+    /// `explain DEF SCRIPT`
+    Explain {
+        definition: &'a str,
+        script: &'a str,
+    },
 }
 
 /// What `gen` asks for with this word.
@@ -73,9 +80,28 @@ fn of_two<'a>(form: &str, word: &'a str) -> Option<Form<'a>>
     if form == "check" {
         Some(Form::Check { definition: word })
     } else if form == "live" {
-        Some(Form::Live { definition: word })
+        Some(Form::Live {
+            definition: word,
+            framing: Framing::Plain,
+        })
     } else if form == "gen" {
         of_number(word)
+    } else {
+        None
+    }
+}
+
+/// What `live` asks for with a word before the file.
+fn of_framed<'a>(word: &str, definition: &'a str) -> Option<Form<'a>>
+    ensures { (form : Name) → form ≡ codes "live"
+        → MatchOption result (HasNoForm (form ∷ word.now ∷ definition.now ∷ []))
+        (IsWanted (form ∷ word.now ∷ definition.now ∷ [])) }
+{
+    if word == "--framed" {
+        Some(Form::Live {
+            definition,
+            framing: Framing::Framed,
+        })
     } else {
         None
     }
@@ -101,6 +127,13 @@ fn of_three<'a>(form: &str, first: &'a str, second: &'a str) -> Option<Form<'a>>
             script: first,
             file: second,
         })
+    } else if form == "explain" {
+        Some(Form::Explain {
+            definition: first,
+            script: second,
+        })
+    } else if form == "live" {
+        of_framed(first, second)
     } else {
         None
     }

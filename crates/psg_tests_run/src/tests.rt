@@ -2,6 +2,7 @@
 ghost use Rattle.std.specs.Prelude.{◌≡◌, ◌<◌};
 
 mod arranged;
+mod explained;
 mod exported;
 mod failures;
 mod formatted;

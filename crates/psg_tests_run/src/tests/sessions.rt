@@ -8,6 +8,8 @@ use std::test::Fail;
 
 const LIVE: &[&str] = &["live", "lang"];
 
+const FRAMED: &[&str] = &["live", "--framed", "lang"];
+
 /// The lines of a session, with a carriage return, an empty line and one that is no command.
 const LINES: &[&str] = &[
     "new Exp",
@@ -55,6 +57,18 @@ const ROWS: &[Row<'static>] = &[
     (&[5], &[3], Status::WriteFault, "ok\nok\n"),
 ];
 
+/// The same where each reply has a line with the number of its lines before it.
+const FRAMED_ROWS: &[Row<'static>] = &[
+    (
+        &[],
+        &[],
+        Status::Done,
+        "1\nok\n1\nok\n1\nrefused 1\n1\nrefused 12\n2\n( ?Exp + ?Exp )\nok\n",
+    ),
+    (&[3], &[], Status::ReadFault, "1\nok\n1\nok\n"),
+    (&[], &[3], Status::WriteFault, "1\nok\n1\nok\n"),
+];
+
 fn lines_of(alloc: Global, lines: &[&str]) -> Result<Vec<Vec<u8>>, AllocError> {
     let mut all = Vec::new(alloc);
     for line in lines {
@@ -63,9 +77,10 @@ fn lines_of(alloc: Global, lines: &[&str]) -> Result<Vec<Vec<u8>>, AllocError> {
     Ok(all)
 }
 
-/// Runs on the definition and the lines.
+/// Runs for the words on the definition and the lines.
 fn run_lines(
     alloc: Global,
+    words: &[&str],
     definition: &str,
     lines: Vec<Vec<u8>>,
     unread: &[u64],
@@ -73,7 +88,7 @@ fn run_lines(
 ) -> Result<Run, AllocError> {
     let mut files = files(alloc, definition.as_bytes(), b"", &[])?;
     let mut input = MemInput::new(alloc, lines, Vec::from_slice(alloc, unread)?);
-    run_on(alloc, LIVE, &mut files, &mut input, puts)
+    run_on(alloc, words, &mut files, &mut input, puts)
 }
 
 /// A command that is as long as the number says, by spaces between its words.
@@ -91,7 +106,17 @@ fn spaced(alloc: Global, length: usize) -> Result<Vec<u8>, AllocError> {
 fn lines_are_answered_up_to_a_fault(rt: HostRuntime) -> Result<(), Fail> {
     for (unread, puts, status, output) in ROWS {
         let lines = lines_of(rt.alloc(), LINES)?;
-        let run = run_lines(rt.alloc(), CONSTS, lines, unread, puts)?;
+        let run = run_lines(rt.alloc(), LIVE, CONSTS, lines, unread, puts)?;
+        ends(&rt, &run, *status, output);
+    }
+    Ok(())
+}
+
+#[test]
+fn framed_lines_are_answered_with_numbers(rt: HostRuntime) -> Result<(), Fail> {
+    for (unread, puts, status, output) in FRAMED_ROWS {
+        let lines = lines_of(rt.alloc(), LINES)?;
+        let run = run_lines(rt.alloc(), FRAMED, CONSTS, lines, unread, puts)?;
         ends(&rt, &run, *status, output);
     }
     Ok(())
@@ -103,7 +128,7 @@ fn a_line_is_too_long_by_one_byte(rt: HostRuntime) -> Result<(), Fail> {
         let mut lines = Vec::new(rt.alloc());
         lines.push(spaced(rt.alloc(), length)?)?;
         lines.push(Vec::from_slice(rt.alloc(), b"new Exp")?)?;
-        let run = run_lines(rt.alloc(), CONSTS, lines, &[], &[])?;
+        let run = run_lines(rt.alloc(), LIVE, CONSTS, lines, &[], &[])?;
         ends(&rt, &run, Status::Done, output);
     }
     Ok(())
@@ -112,7 +137,7 @@ fn a_line_is_too_long_by_one_byte(rt: HostRuntime) -> Result<(), Fail> {
 #[test]
 fn a_refused_definition_reads_no_line(rt: HostRuntime) -> Result<(), Fail> {
     let lines = lines_of(rt.alloc(), LINES)?;
-    let run = run_lines(rt.alloc(), "", lines, &[1], &[])?;
+    let run = run_lines(rt.alloc(), LIVE, "", lines, &[1], &[])?;
     ends(&rt, &run, Status::DefinitionRefused, "line 1 code 3\n");
     Ok(())
 }

@@ -1,5 +1,4 @@
 use Rattle.std.proofs.Common.{Bool, true, false, ap, subst}
-use Rattle.psg_grammar.specs.declared.types.Definition.{Definition}
 use Rattle.psg_terms.specs.Names.{Name}
 use Rattle.psg_run.specs.declared.status.Status.{Status}
 use Rattle.psg_run.specs.Formatting.{Formats}

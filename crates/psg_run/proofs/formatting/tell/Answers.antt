@@ -1,6 +1,6 @@
 use Rattle.std.proofs.Common.{refl, subst}
 use Rattle.std.specs.Prelude.{string_bytes}
-use Rattle.psg_run.specs.Formatting.{no_room_for_program, tells_program, with_ticks}
+use Rattle.psg_run.specs.Formatting.{no_room_for_program, tells_program}
 use Rattle.psg_run.specs.Worlds.{Puts, seen}
 use Rattle.psg_run.proofs.formatting.tell.Goals as goal
 

@@ -25,7 +25,7 @@ returns-in-Err g c = λ input.
     (so_stopped c.loop-rest.session.language (script_lines c.args.script.now) c.loop-rest.rest.now c.cut_line-cut.result.rest.now
     c.cut_line-cut.result.line.now (state_of c.loop-rest.session.editor) (seen (g.F.Files.holds c.args.files.now) (g.F.Files.faults c.args.files.now) input c.args.steps.now (g.O.Sink.written c.args.out.now) (g.O.Sink.faults c.args.out.now)) (seen (g.F.Files.holds c.loop-rest.files) (g.F.Files.faults c.loop-rest.files) input c.loop-rest.steps (g.O.Sink.written c.loop-rest.out) (g.O.Sink.faults c.loop-rest.out)) c.cut_line-cut.ensures.lines
     (c.loop-rest.invariant.so_far input) (seen (g.F.Files.holds c.play_some.new.files) (g.F.Files.faults c.play_some.new.files) input c.play_some.new.steps (g.O.Sink.written c.play_some.new.out) (g.O.Sink.faults c.play_some.new.out)) c.in-Err.status c.loop-rest.invariant.never_falls
-    (c.in-Err.ensures.err input (c.loop-rest.invariant.so_far input).reply (kept_lines (c.cut_line-cut.result.line.now ∷ [])) c.kept.ensures))
+    (c.in-Err.ensures.err input (c.loop-rest.invariant.so_far input).reply (kept_lines (c.cut_line-cut.result.line.now ∷ [])) c.kept-line.ensures))
 
 pub loop-rest-preserved : goal.loop-rest-preserved
 loop-rest-preserved g c = record {
@@ -34,7 +34,7 @@ loop-rest-preserved g c = record {
       (so_played c.loop-rest.session.language (script_lines c.args.script.now) c.loop-rest.rest.now c.cut_line-cut.result.rest.now
       c.cut_line-cut.result.line.now (state_of c.loop-rest.session.editor) (seen (g.F.Files.holds c.args.files.now) (g.F.Files.faults c.args.files.now) input c.args.steps.now (g.O.Sink.written c.args.out.now) (g.O.Sink.faults c.args.out.now)) (seen (g.F.Files.holds c.loop-rest.files) (g.F.Files.faults c.loop-rest.files) input c.loop-rest.steps (g.O.Sink.written c.loop-rest.out) (g.O.Sink.faults c.loop-rest.out)) c.cut_line-cut.ensures.lines
       (c.loop-rest.invariant.so_far input) (state_of c.play_some.new.session.editor) (seen (g.F.Files.holds c.play_some.new.files) (g.F.Files.faults c.play_some.new.files) input c.play_some.new.steps (g.O.Sink.written c.play_some.new.out) (g.O.Sink.faults c.play_some.new.out))
-      (c.in_default.ensures.ok input (c.loop-rest.invariant.so_far input).reply (kept_lines (c.cut_line-cut.result.line.now ∷ [])) c.kept.ensures));
+      (c.in_default.ensures.ok input (c.loop-rest.invariant.so_far input).reply (kept_lines (c.cut_line-cut.result.line.now ∷ [])) c.kept-line.ensures));
   language = c.in_default.ensures.language ∙ c.loop-rest.invariant.language;
   never_falls = le_trans c.loop-rest.invariant.never_falls c.in_default.ensures.never_falls;
 }

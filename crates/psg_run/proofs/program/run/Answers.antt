@@ -1,9 +1,9 @@
 use Rattle.std.proofs.Common.{◌≡◌, [], ◌∷◌}
 use Rattle.std.specs.Prelude.{codes}
-use Rattle.psg_run.specs.Promise.{check, edit, gen, itself, layout, live, windows}
-use Rattle.psg_run.specs.Wanted.{formatting}
+use Rattle.psg_run.specs.Promise.{check, edit, explain, gen, itself, layout, windows}
+use Rattle.psg_run.specs.Wanted.{formatting, living}
 use Rattle.psg_run.specs.Worlds.{coming, seen, texts_of}
-use Rattle.psg_run.proofs.WordForms.{has_form, of_check, of_edit, of_format, of_gen, of_itself, of_layout, of_live, of_windows}
+use Rattle.psg_run.proofs.WordForms.{has_form, of_check, of_edit, of_explain, of_format, of_gen, of_itself, of_layout, of_live, of_windows}
 use Rattle.psg_run.proofs.program.run.Goals as goal
 
 pub returns-in-Some-Check : goal.returns-in-Some-Check
@@ -38,12 +38,12 @@ returns-in-Some-Windows g c =
 
 pub returns-in-Some-Live : goal.returns-in-Some-Live
 returns-in-Some-Live g c =
-    let wanted : texts_of c.args.words.now ≡ codes "live" ∷ c.in-Some-Live.definition.now ∷ [] = rw c.in-Some-Live.field-0-is at c.in-Some-Live.ensures in
+    let wanted = rw c.in-Some-Live.field-0-is at c.in-Some-Live.ensures in
     record {
       run = of_live (texts_of c.args.words.now) (seen (g.F.Files.holds c.args.files.now) (g.F.Files.faults c.args.files.now) (coming (g.I.Input.lines c.args.input.now) (g.I.Input.given c.args.input.now) (g.I.Input.missed c.args.input.now)) c.args.steps.now (g.O.Sink.written c.args.out.now) (g.O.Sink.faults c.args.out.now))
           (seen (g.F.Files.holds c.live.new.files) (g.F.Files.faults c.live.new.files) (coming (g.I.Input.lines c.live.new.input) (g.I.Input.given c.live.new.input) (g.I.Input.missed c.live.new.input)) c.live.new.steps (g.O.Sink.written c.live.new.out) (g.O.Sink.faults c.live.new.out))
-          c.live.result c.in-Some-Live.definition.now wanted c.live.ensures;
-      untouched = λ none. absurd (has_form (texts_of c.args.words.now) (seen (g.F.Files.holds c.args.files.now) (g.F.Files.faults c.args.files.now) (coming (g.I.Input.lines c.args.input.now) (g.I.Input.given c.args.input.now) (g.I.Input.missed c.args.input.now)) c.args.steps.now (g.O.Sink.written c.args.out.now) (g.O.Sink.faults c.args.out.now)) (seen (g.F.Files.holds c.args.files.now) (g.F.Files.faults c.args.files.now) (coming (g.I.Input.lines c.args.input.now) (g.I.Input.given c.args.input.now) (g.I.Input.missed c.args.input.now)) c.args.steps.now (g.O.Sink.written c.args.out.now) (g.O.Sink.faults c.args.out.now)) c.live.result (live c.in-Some-Live.definition.now) wanted none);
+          c.live.result c.in-Some-Live.framing c.in-Some-Live.definition.now wanted c.live.ensures;
+      untouched = λ none. absurd (has_form (texts_of c.args.words.now) (seen (g.F.Files.holds c.args.files.now) (g.F.Files.faults c.args.files.now) (coming (g.I.Input.lines c.args.input.now) (g.I.Input.given c.args.input.now) (g.I.Input.missed c.args.input.now)) c.args.steps.now (g.O.Sink.written c.args.out.now) (g.O.Sink.faults c.args.out.now)) (seen (g.F.Files.holds c.args.files.now) (g.F.Files.faults c.args.files.now) (coming (g.I.Input.lines c.args.input.now) (g.I.Input.given c.args.input.now) (g.I.Input.missed c.args.input.now)) c.args.steps.now (g.O.Sink.written c.args.out.now) (g.O.Sink.faults c.args.out.now)) c.live.result (living c.in-Some-Live.framing c.in-Some-Live.definition.now) wanted none);
     }
 
 pub generate-requires-clause-low : goal.generate-requires-clause-low
@@ -90,4 +90,14 @@ returns-in-Some-Format g c =
           (seen (g.F.Files.holds c.format_file.new.files) (g.F.Files.faults c.format_file.new.files) (coming (g.I.Input.lines c.args.input.now) (g.I.Input.given c.args.input.now) (g.I.Input.missed c.args.input.now)) c.format_file.new.steps (g.O.Sink.written c.format_file.new.out) (g.O.Sink.faults c.format_file.new.out))
           c.format_file.result c.in-Some-Format.checks c.in-Some-Format.definition.now c.in-Some-Format.kind.now c.in-Some-Format.program.now wanted (c.format_file.ensures (coming (g.I.Input.lines c.args.input.now) (g.I.Input.given c.args.input.now) (g.I.Input.missed c.args.input.now)));
       untouched = λ none. absurd (has_form (texts_of c.args.words.now) (seen (g.F.Files.holds c.args.files.now) (g.F.Files.faults c.args.files.now) (coming (g.I.Input.lines c.args.input.now) (g.I.Input.given c.args.input.now) (g.I.Input.missed c.args.input.now)) c.args.steps.now (g.O.Sink.written c.args.out.now) (g.O.Sink.faults c.args.out.now)) (seen (g.F.Files.holds c.args.files.now) (g.F.Files.faults c.args.files.now) (coming (g.I.Input.lines c.args.input.now) (g.I.Input.given c.args.input.now) (g.I.Input.missed c.args.input.now)) c.args.steps.now (g.O.Sink.written c.args.out.now) (g.O.Sink.faults c.args.out.now)) c.format_file.result (formatting c.in-Some-Format.checks c.in-Some-Format.definition.now c.in-Some-Format.kind.now c.in-Some-Format.program.now) wanted none);
+    }
+
+pub returns-in-Some-Explain : goal.returns-in-Some-Explain
+returns-in-Some-Explain g c =
+    let wanted : texts_of c.args.words.now ≡ codes "explain" ∷ c.in-Some-Explain.definition.now ∷ c.in-Some-Explain.script.now ∷ [] = rw c.in-Some-Explain.field-0-is at c.in-Some-Explain.ensures in
+    record {
+      run = of_explain (texts_of c.args.words.now) (seen (g.F.Files.holds c.args.files.now) (g.F.Files.faults c.args.files.now) (coming (g.I.Input.lines c.args.input.now) (g.I.Input.given c.args.input.now) (g.I.Input.missed c.args.input.now)) c.args.steps.now (g.O.Sink.written c.args.out.now) (g.O.Sink.faults c.args.out.now))
+          (seen (g.F.Files.holds c.explain_script.new.files) (g.F.Files.faults c.explain_script.new.files) (coming (g.I.Input.lines c.args.input.now) (g.I.Input.given c.args.input.now) (g.I.Input.missed c.args.input.now)) c.explain_script.new.steps (g.O.Sink.written c.explain_script.new.out) (g.O.Sink.faults c.explain_script.new.out))
+          c.explain_script.result c.in-Some-Explain.definition.now c.in-Some-Explain.script.now wanted (c.explain_script.ensures (coming (g.I.Input.lines c.args.input.now) (g.I.Input.given c.args.input.now) (g.I.Input.missed c.args.input.now)));
+      untouched = λ none. absurd (has_form (texts_of c.args.words.now) (seen (g.F.Files.holds c.args.files.now) (g.F.Files.faults c.args.files.now) (coming (g.I.Input.lines c.args.input.now) (g.I.Input.given c.args.input.now) (g.I.Input.missed c.args.input.now)) c.args.steps.now (g.O.Sink.written c.args.out.now) (g.O.Sink.faults c.args.out.now)) (seen (g.F.Files.holds c.args.files.now) (g.F.Files.faults c.args.files.now) (coming (g.I.Input.lines c.args.input.now) (g.I.Input.given c.args.input.now) (g.I.Input.missed c.args.input.now)) c.args.steps.now (g.O.Sink.written c.args.out.now) (g.O.Sink.faults c.args.out.now)) c.explain_script.result (explain c.in-Some-Explain.definition.now c.in-Some-Explain.script.now) wanted none);
     }
