@@ -8,7 +8,7 @@ use Rattle.psg_places.specs.Places.{place_count}
 use Rattle.psg_places.specs.Opened.{opened}
 use Rattle.std.proofs.lemmas.List.{take_all}
 use Rattle.psg_places.specs.Blame.{AreAllAnswers, AreAnswers, blamed_in, kept_in, up_to, kept_of_first, none_kept}
-use Rattle.psg_places.specs.Blame.{IsBlameBy, IsBlameUpTo, IsGoodIfKept, IsNeeded, IsOne, IsFalling, KeepsAll, Leaves}
+use Rattle.psg_places.specs.Blame.{IsBlameUpTo, IsGoodIfKept, IsNeeded, IsOne, IsFalling, KeepsAll, Leaves}
 use Rattle.psg_places.proofs.OfPlacesLaws.{of_places}
 use Rattle.psg_places.proofs.Whole.{whole}
 

@@ -1,10 +1,10 @@
 -- Which new names are taken does not matter.
-use Rattle.std.proofs.Common.{◌≡◌, ◌⊎◌, ◌↔◌, inl, inr, ℕ, zero, suc, ◌+◌, ◌<◌, ◌≤◌, ◌||◌, ◌&&◌, not, nat_lt, Bool, true, false, cond, List, [], ◌∷◌, ◌++◌, map, length, bytes_eq, refl, ap, ap₂, sym, ◌∙◌, subst, arith, true≢false}
+use Rattle.std.proofs.Common.{◌≡◌, inl, inr, ℕ, zero, suc, ◌+◌, ◌<◌, ◌||◌, nat_lt, Bool, true, false, cond, List, [], ◌∷◌, ◌++◌, map, length, bytes_eq, refl, ap, ap₂, sym, ◌∙◌, subst, arith, true≢false}
 use Rattle.std.specs.List.{AllByRecursion}
-use Rattle.std.proofs.lemmas.Bool.{cases_lt, cases_Bool, lt-ltb, le-ltb, false_from_ne_true, or_cases, or_left, or_right}
+use Rattle.std.proofs.lemmas.Bool.{cases_lt, lt-ltb, le-ltb, false_from_ne_true, or_left, or_right}
 use Rattle.psg_terms.specs.Names.{Name, has_twice, is_among}
 use Rattle.psg_terms.proofs.DeclareLaws.{bytes_eq-same}
-use Rattle.psg_scope.proofs.KeyLists.{key_is, key_refl}
+use Rattle.psg_scope.proofs.KeyLists.{key_refl}
 use Rattle.psg_grammar.specs.declared.types.Kind.{Kind}
 use Rattle.psg_grammar.specs.declared.types.Definition.{Definition}
 use Rattle.psg_grammar.specs.Fragments.{Fragment, hole, ending, cell, operator, with_child, with_name, with_number}
@@ -19,11 +19,11 @@ use Rattle.psg_completions.proofs.Law.{open_or_completable}
 use Rattle.psg_renaming.specs.Occurring.{occurring}
 use Rattle.psg_renaming.proofs.Inserted.{unchanged}
 use Rattle.psg_renaming.proofs.Judged.{open_to, open_from}
-use Rattle.psg_renaming.proofs.Permuting.{Permutation, Takes, takes}
+use Rattle.psg_renaming.proofs.Permuting.{Permutation, takes}
 use Rattle.psg_renaming.proofs.Turned.{turned}
-use Rattle.psg_places.specs.Blame.{AreAllAnswers, AreAnswers, IsBlameUpTo, IsForAllNames, front, kept_in, none_kept, up_to}
+use Rattle.psg_places.specs.Blame.{AreAllAnswers, IsForAllNames, kept_in, none_kept, up_to}
 use Rattle.psg_places.specs.NewNames.{AreNew}
-use Rattle.psg_places.specs.Opened.{contents, name_or_fresh, opened, opened_child, opened_element}
+use Rattle.psg_places.specs.Opened.{contents, name_or_fresh, opened, opened_child}
 use Rattle.psg_places.specs.Places.{content_count, declared_count, element_size, has_no_placeholder, is_hole, may_go_on, phylum_of, place_count}
 use Rattle.psg_places.proofs.FormedLaws.{formed}
 use Rattle.psg_places.proofs.OfPlacesLaws.{of_places}

@@ -19,3 +19,4 @@ pub mod StepLaws
 pub mod FallingLaws
 pub mod WorkLaws
 pub mod SearchLaws
+pub mod WayLaws

@@ -1,9 +1,9 @@
 -- The places that are passed, step by step.
-use Rattle.std.proofs.Common.{◌≡◌, ℕ, zero, suc, ◌+◌, ◌<◌, ◌≤◌, ◌&&◌, not, Bool, true, false, cond, List, [], ◌∷◌, ◌++◌, length, take, get_or, slice_get, refl, ap, ap₂, sym, ◌∙◌, subst, arith, append_assoc, append-nil, length-append}
+use Rattle.std.proofs.Common.{◌≡◌, ℕ, zero, suc, ◌+◌, ◌<◌, ◌≤◌, ◌&&◌, not, Bool, true, false, cond, List, [], ◌∷◌, ◌++◌, length, take, get_or, slice_get, Option, Some, None, refl, ap, ap₂, sym, ◌∙◌, subst, arith, append_assoc, append-nil, length-append}
 use Rattle.std.proofs.lemmas.List.{take_all}
 use Rattle.psg_terms.proofs.Lists.{take_item}
 use Rattle.psg_grammar.specs.declared.types.Definition.{Definition}
-use Rattle.psg_grammar.specs.Fragments.{Fragment, cell, operator, children_of}
+use Rattle.psg_grammar.specs.Fragments.{Fragment, operator, children_of}
 use Rattle.psg_grammar.specs.Lookups.{is_declares, items_of, next_item, operator_at}
 use Rattle.psg_grammar.specs.Paths.{Path}
 use Rattle.psg_tree.specs.declared.tree.Part.{Part}
@@ -12,44 +12,102 @@ use Rattle.psg_tree.specs.Shapes.{list_of, with_part, with_parts}
 use Rattle.psg_places.specs.declared.passing.Listing.{Listing}
 use Rattle.psg_places.specs.declared.place.Place.{Place}
 use Rattle.psg_places.specs.declared.place.Place.TheVariants.{End}
-use Rattle.psg_places.specs.Listings.{Lists, blamed_among, children_in, elements_declared_places, elements_places}
-use Rattle.psg_places.specs.Listings.{fixed_places, is_blamed, names_in, own_element_places, part_content_places, part_declared_places}
+use Rattle.psg_places.specs.Blame.{blamed_in, is_some_true, kept_in}
+use Rattle.psg_places.specs.Listings.{Lists, blamed_among, is_blamed, is_some_false, opened_among, children_in, elements_declared_places, elements_places}
+use Rattle.psg_places.specs.Listings.{fixed_places, names_in, own_element_places, part_content_places, part_declared_places}
 use Rattle.psg_places.specs.Places.{below, content_places, declared_places, may_go_on, names_before}
 use Rattle.psg_places.proofs.OpeningLaws.{length_taken, next_of_parts, parts_push}
 
+-- ---- where no place is kept, and where some are blamed
+
+pub opened_all : (ps : List Place) (n : ℕ) → opened_among [] n ps ≡ ps
+opened_all [] n = refl
+opened_all (p ∷ ps) n = ap (λ qs. p ∷ qs) (opened_all ps (suc n))
+
+take_none : (m : ℕ) → take {A = Place} m [] ≡ []
+take_none zero = refl
+take_none (suc m) = refl
+
+with_answer : (o : Option Bool) (b : Bool) (answers : List Bool) (p : Place) (xs ys : List Place) → o ≡ Some b
+    → take (blamed_in answers) xs ≡ ys
+    → take (blamed_in (b ∷ answers)) (cond (not (is_some_true o)) (p ∷ []) [] ++ xs) ≡ cond (is_some_false o) (p ∷ []) [] ++ ys
+with_answer o b answers p xs ys e h =
+    subst (λ t. take (blamed_in (b ∷ answers)) (cond (not (is_some_true t)) (p ∷ []) [] ++ xs) ≡ cond (is_some_false t) (p ∷ []) [] ++ ys)
+    (sym e) (by_answer b)
+  where
+    by_answer : (b : Bool) → take (blamed_in (b ∷ answers)) (cond (not b) (p ∷ []) [] ++ xs) ≡ cond (not b) (p ∷ []) [] ++ ys
+    by_answer true = let z : blamed_in (true ∷ answers) ≡ blamed_in answers = omega arith in ap (λ m. take m xs) z ∙ h
+    by_answer false =
+        let z : blamed_in (false ∷ answers) ≡ suc (blamed_in answers) = omega arith in
+        ap (λ m. take m (p ∷ xs)) z ∙ ap (λ qs. p ∷ qs) h
+
+-- these are the answers from the number n on
+blamed_along : (kept : List Bool) (n : ℕ) (answers : List Bool) (ps : List Place)
+    → ((k m : ℕ) → m ≡ n + k → slice_get kept m ≡ slice_get answers k)
+    → take (blamed_in answers) (opened_among kept n ps) ≡ blamed_among kept n ps
+blamed_along kept n answers [] h = take_none (blamed_in answers)
+blamed_along kept n [] (p ∷ ps) h =
+    let none : slice_get kept n ≡ None = h 0 n (omega arith) in
+    let more = blamed_along kept (suc n) [] ps (λ k m e. h (suc k) m (omega (arith, e))) in
+    more ∙ ap (λ o. cond (is_some_false o) (p ∷ []) [] ++ blamed_among kept (suc n) ps) (sym none)
+blamed_along kept n (b ∷ answers) (p ∷ ps) h =
+    with_answer (slice_get kept n) b answers p (opened_among kept (suc n) ps) (blamed_among kept (suc n) ps) (h 0 n (omega arith))
+    (blamed_along kept (suc n) answers ps (λ k m e. h (suc k) m (omega (arith, e))))
+
+-- The blamed places are the first ones that are opened.
+pub blamed_first : (kept : List Bool) (ps : List Place) → take (blamed_in kept) (opened_among kept 0 ps) ≡ blamed_among kept 0 ps
+blamed_first kept ps = blamed_along kept 0 kept ps (λ k m e. let z : m ≡ k = omega (arith, e) in ap (λ i. slice_get kept i) z)
+
+blamed_more : (kept : List Bool) (i : ℕ) → i < length kept
+    → blamed_in (take (suc i) kept) ≡ blamed_in (take i kept) + cond (is_blamed kept i) 1 0
+blamed_more [] i lt = absurd (omega arith)
+blamed_more (true ∷ kept) zero lt = refl
+blamed_more (false ∷ kept) zero lt = refl
+blamed_more (b ∷ kept) (suc i) lt = let e = blamed_more kept i (omega (arith, lt)) in omega (arith, e)
+
+pub blamed_counted : (kept : List Bool) (i : ℕ) (blamed : Bool) (total more : ℕ) → i < length kept
+    → blamed ≡ is_blamed kept i → more ≡ cond blamed 1 0 → total ≡ blamed_in (take i kept)
+    → total + more ≡ blamed_in (take (i + 1) kept)
+blamed_counted kept i blamed total more lt b m h =
+    let z : i + 1 ≡ suc i = omega arith in
+    ap₂ (λ x y. x + y) h (m ∙ ap (λ t. cond t 1 0) b) ∙ sym (blamed_more kept i lt) ∙ ap (λ n. blamed_in (take n kept)) (sym z)
+
+pub blamed_all : (kept : List Bool) (i total : ℕ) → length kept ≤ i → total ≡ blamed_in (take i kept) → total ≡ blamed_in kept
+blamed_all kept i total le h = h ∙ ap blamed_in (take_all i kept le)
+
 -- ---- places one after the other
 
-blamed_both : (kept : List Bool) (n : ℕ) (xs ys : List Place)
-    → blamed_among kept n (xs ++ ys) ≡ blamed_among kept n xs ++ blamed_among kept (n + length xs) ys
-blamed_both kept n [] ys = let z : n ≡ n + 0 = omega arith in ap (λ m. blamed_among kept m ys) z
-blamed_both kept n (x ∷ xs) ys =
-    let here = cond (is_blamed kept n) (x ∷ []) [] in
+opened_both : (kept : List Bool) (n : ℕ) (xs ys : List Place)
+    → opened_among kept n (xs ++ ys) ≡ opened_among kept n xs ++ opened_among kept (n + length xs) ys
+opened_both kept n [] ys = let z : n ≡ n + 0 = omega arith in ap (λ m. opened_among kept m ys) z
+opened_both kept n (x ∷ xs) ys =
+    let here = cond (not (kept_in kept n)) (x ∷ []) [] in
     let z : suc n + length xs ≡ n + length (x ∷ xs) = omega arith in
-    ap (λ ps. here ++ ps) (blamed_both kept (suc n) xs ys)
-    ∙ ap (λ m. here ++ (blamed_among kept (suc n) xs ++ blamed_among kept m ys)) z
-    ∙ sym (append_assoc here (blamed_among kept (suc n) xs) (blamed_among kept (n + length (x ∷ xs)) ys))
+    ap (λ ps. here ++ ps) (opened_both kept (suc n) xs ys)
+    ∙ ap (λ m. here ++ (opened_among kept (suc n) xs ++ opened_among kept m ys)) z
+    ∙ sym (append_assoc here (opened_among kept (suc n) xs) (opened_among kept (n + length (x ∷ xs)) ys))
 
 pub lists_both : (kept : List Bool) (xs ys : List Place) (a b c : Listing) → Lists kept xs a b → Lists kept ys b c
     → Lists kept (xs ++ ys) a c
 lists_both kept xs ys a b c h k = record {
   seen = let l = length-append xs ys in omega (arith, h.seen, k.seen, l);
   found =
-      k.found ∙ ap₂ (λ ps m. ps ++ blamed_among kept m ys) h.found h.seen
-      ∙ append_assoc a.found.items (blamed_among kept a.seen xs) (blamed_among kept (a.seen + length xs) ys)
-      ∙ ap (λ ps. a.found.items ++ ps) (sym (blamed_both kept a.seen xs ys));
+      k.found ∙ ap₂ (λ ps m. ps ++ opened_among kept m ys) h.found h.seen
+      ∙ append_assoc a.found.items (opened_among kept a.seen xs) (opened_among kept (a.seen + length xs) ys)
+      ∙ ap (λ ps. a.found.items ++ ps) (sym (opened_both kept a.seen xs ys));
 }
 
 pub lists_none : (kept : List Bool) (a : Listing) → Lists kept [] a a
 lists_none kept a = record { seen = omega arith; found = sym (append-nil a.found.items) }
 
 pub lists_one : (kept : List Bool) (p : Place) (old new : Listing) (next : ℕ) (wanted : Bool) (found : List Place)
-    → next ≡ old.seen + 1 → wanted ≡ is_blamed kept old.seen → found ≡ old.found.items ++ cond wanted (p ∷ []) []
+    → next ≡ old.seen + 1 → wanted ≡ not (kept_in kept old.seen) → found ≡ old.found.items ++ cond wanted (p ∷ []) []
     → new.seen ≡ next → new.found.items ≡ found → Lists kept (p ∷ []) old new
 lists_one kept p old new next wanted found n w f s e = record {
   seen = s ∙ n;
   found =
       e ∙ f ∙ ap (λ b. old.found.items ++ cond b (p ∷ []) []) w
-      ∙ ap (λ ps. old.found.items ++ ps) (sym (append-nil (cond (is_blamed kept old.seen) (p ∷ []) [])));
+      ∙ ap (λ ps. old.found.items ++ ps) (sym (append-nil (cond (not (kept_in kept old.seen)) (p ∷ []) [])));
 }
 
 -- the same places, said in another way

@@ -1,8 +1,8 @@
 -- A front and a number are new names, one for each place, and they are short.
-use Rattle.std.proofs.Common.{◌≡◌, ◌⊎◌, inl, inr, ℕ, zero, suc, ◌+◌, ◌*◌, ◌/◌, ◌%◌, ◌^◌, ◌<◌, ◌≤◌, ◌==◌, ◌||◌, ◌&&◌, Bool, true, false, cond, if◌then◌else◌, List, [], ◌∷◌, ◌++◌, length, bytes_eq, refl, ap, ap₂, sym, ◌∙◌, subst, arith, true≢false, lt-ltb, length-append}
+use Rattle.std.proofs.Common.{◌≡◌, inl, inr, ℕ, zero, suc, ◌+◌, ◌/◌, ◌%◌, ◌^◌, ◌<◌, ◌≤◌, ◌==◌, ◌||◌, ◌&&◌, Bool, true, false, cond, if◌then◌else◌, List, [], ◌∷◌, ◌++◌, length, bytes_eq, refl, ap, ap₂, sym, ◌∙◌, subst, arith, true≢false, lt-ltb, length-append}
 use Rattle.std.specs.Prelude.{decimal, encode_utf8_all, nat_eq, IsTrue}
 use Rattle.std.specs.Fmt.{digit_glyph, digits_onto, digits}
-use Rattle.std.specs.List.{AllByRecursion, starts_with}
+use Rattle.std.specs.List.{AllByRecursion}
 use Rattle.std.proofs.lemmas.Bool.{cases_Bool}
 use Rattle.std.proofs.lemmas.Fmt.{decimal_injective, length-decimal-le}
 use Rattle.std.proofs.lemmas.Str.{encode_ascii}
@@ -15,7 +15,7 @@ use Rattle.psg_grammar.specs.declared.types.Definition.{Definition}
 use Rattle.psg_grammar.specs.Fragments.{Fragment}
 use Rattle.psg_grammar.specs.WellFormed.{IsName, fixed_words}
 use Rattle.psg_renaming.specs.Occurring.{occurring}
-use Rattle.psg_places.specs.NewNames.{AreNew, IsFree, IsFront, IsLetter, beginning, begins_with, new_name}
+use Rattle.psg_places.specs.NewNames.{AreNew, IsFront, IsLetter, beginning, begins_with, new_name}
 use Rattle.psg_places.specs.Places.{place_count}
 
 -- ---- letters and digits are characters of words

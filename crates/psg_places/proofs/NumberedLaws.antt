@@ -1,5 +1,5 @@
 -- The number of a place is its position among the listed places.
-use Rattle.std.proofs.Common.{◌≡◌, ℕ, zero, suc, ◌+◌, ◌||◌, ◌&&◌, not, Bool, true, false, cond, List, [], ◌∷◌, ◌++◌, length, slice_get, refl, ap, ap₂, sym, ◌∙◌, subst, arith, append_assoc, append-nil, length-append}
+use Rattle.std.proofs.Common.{◌≡◌, ℕ, suc, ◌+◌, ◌||◌, ◌&&◌, not, Bool, true, false, cond, List, [], ◌∷◌, ◌++◌, length, refl, ap, ap₂, sym, ◌∙◌, subst, arith, append_assoc, length-append}
 use Rattle.std.specs.Prelude.{unwrap_or}
 use Rattle.psg_terms.specs.Names.{Name as Word}
 use Rattle.psg_terms.proofs.Lists.{slice_get-middle}
@@ -10,10 +10,10 @@ use Rattle.psg_grammar.specs.Lookups.{is_declares, next_item}
 use Rattle.psg_grammar.specs.Paths.{Path}
 use Rattle.psg_places.specs.declared.place.Place.{Place}
 use Rattle.psg_places.specs.declared.place.Place.TheVariants.{Node, Element, End, Name}
-use Rattle.psg_places.specs.ByPlaces.{AreNumbered, child_by, contents_by, numbered, opened_by}
-use Rattle.psg_places.specs.Opened.{contents, name_or_fresh, opened, opened_child, opened_element}
+use Rattle.psg_places.specs.ByPlaces.{AreNumbered, child_by, contents_by, numbered}
+use Rattle.psg_places.specs.Opened.{contents, name_or_fresh, opened_child, opened_element}
 use Rattle.psg_places.specs.Places.{below, child_places, content_count, content_places, declared_count, declared_places}
-use Rattle.psg_places.specs.Places.{element_places, element_size, has_no_placeholder, is_hole, may_go_on, names_before, phylum_of, places_of}
+use Rattle.psg_places.specs.Places.{element_size, has_no_placeholder, is_hole, may_go_on, names_before, phylum_of, places_of}
 use Rattle.psg_places.proofs.CountLaws.{content_length, declared_length, element_length}
 
 module _ (def : Definition) (keep : ℕ → Bool) (new : ℕ → Word) (kept : Place → Bool) (fresh : Place → Word) where

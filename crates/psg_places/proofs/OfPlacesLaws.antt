@@ -1,12 +1,12 @@
 -- A tree with places opened depends only on what is said of its places.
-use Rattle.std.proofs.Common.{◌≡◌, ℕ, zero, suc, ◌+◌, ◌<◌, ◌≤◌, ◌||◌, ◌&&◌, not, Bool, true, false, cond, refl, ap, ap₂, sym, ◌∙◌, subst, arith}
+use Rattle.std.proofs.Common.{◌≡◌, ℕ, ◌+◌, ◌<◌, ◌≤◌, ◌||◌, ◌&&◌, not, Bool, true, false, cond, refl, ap, ap₂, sym, ◌∙◌, subst, arith}
 use Rattle.psg_terms.specs.Names.{Name}
 use Rattle.psg_grammar.specs.declared.types.Definition.{Definition}
 use Rattle.psg_grammar.specs.Fragments.{Fragment, hole, ending, cell, operator, with_child, with_name, with_number}
 use Rattle.psg_grammar.specs.Fragments.{with_text, anything, observed}
 use Rattle.psg_grammar.specs.Lookups.{is_declares, next_item}
 use Rattle.psg_places.specs.Blame.{IsOfPlaces}
-use Rattle.psg_places.specs.Opened.{contents, name_or_fresh, opened, opened_child, opened_element}
+use Rattle.psg_places.specs.Opened.{contents, name_or_fresh}
 use Rattle.psg_places.specs.Places.{child_size, content_count, declared_count, element_size, has_no_placeholder, is_hole, may_go_on, phylum_of, place_count}
 
 module _ (def : Definition) (one two : ℕ → Bool) (old new : ℕ → Name) where

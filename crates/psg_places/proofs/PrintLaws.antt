@@ -1,5 +1,5 @@
 -- The names of a tree with places opened are short if those of the tree and the new ones are.
-use Rattle.std.proofs.Common.{◌≡◌, inl, inr, ℕ, ◌+◌, ◌<◌, ◌≤◌, nat_lt, Bool, true, false, cond, [], length, refl, ap, sym, ◌∙◌, subst, arith}
+use Rattle.std.proofs.Common.{inl, inr, ℕ, ◌+◌, ◌<◌, ◌≤◌, nat_lt, Bool, true, false, cond, [], length, refl, ap, sym, subst, arith}
 use Rattle.std.proofs.lemmas.Bool.{cases_lt, lt-ltb, le-ltb}
 use Rattle.psg_terms.specs.Names.{Name}
 use Rattle.psg_grammar.specs.declared.types.Definition.{Definition}
@@ -7,7 +7,7 @@ use Rattle.psg_grammar.specs.Fragments.{Fragment, hole, ending, cell, operator, 
 use Rattle.psg_grammar.specs.Fragments.{with_text, anything, observed}
 use Rattle.psg_grammar.specs.Lookups.{is_declares, next_item}
 use Rattle.psg_grammar.specs.Printable.{IsPrintable}
-use Rattle.psg_places.specs.Opened.{contents, name_or_fresh, opened, opened_child}
+use Rattle.psg_places.specs.Opened.{contents, opened, opened_child}
 use Rattle.psg_places.specs.Places.{content_count, declared_count, element_size, has_no_placeholder, is_hole, may_go_on, phylum_of, place_count}
 use Rattle.psg_places.proofs.OfPlacesLaws.{of_places}
 

@@ -1,11 +1,11 @@
 -- A tree with a new name in place of one of its names, what it declares, and what holds of it.
 use Rattle.std.proofs.Common.{◌≡◌, ◌⊎◌, inl, inr, ℕ, zero, suc, ◌+◌, ◌≤◌, Bool, true, false, cond, ◌||◌, ◌&&◌, not, List, [], ◌∷◌, ◌++◌, slice_get, bytes_eq, refl, ap, ap₂, sym, ◌∙◌, subst, arith, true≢false}
-use Rattle.std.proofs.lemmas.Bool.{cases_Bool, or_parts}
+use Rattle.std.proofs.lemmas.Bool.{cases_Bool}
 use Rattle.psg_terms.specs.Terms.{Term}
 use Rattle.psg_terms.specs.Signature.{HasSort}
 use Rattle.psg_terms.specs.Instances.{IsGround}
 use Rattle.psg_terms.specs.Names.{Name, has_twice, is_among}
-use Rattle.psg_terms.proofs.DeclareLaws.{bytes_eq-same, bytes_eq-refl}
+use Rattle.psg_terms.proofs.DeclareLaws.{bytes_eq-same}
 use Rattle.psg_scope.proofs.HeaderLaws.{outward-among}
 use Rattle.psg_grammar.specs.declared.types.Kind.{Kind}
 use Rattle.psg_grammar.specs.declared.types.Kind.TheVariants as kinds
@@ -14,11 +14,11 @@ use Rattle.psg_grammar.specs.declared.types.Item.TheVariants as items
 use Rattle.psg_grammar.specs.declared.types.Definition.{Definition}
 use Rattle.psg_grammar.specs.Fragments.{Fragment, hole, ending, cell, operator, with_child, with_name, with_number}
 use Rattle.psg_grammar.specs.Fragments.{with_text, anything, observed, top_operator, parts_count}
-use Rattle.psg_grammar.specs.Keys.{Key, space_of, name_in, outward}
+use Rattle.psg_grammar.specs.Keys.{Key, space_of, name_in}
 use Rattle.psg_grammar.specs.Legal.{AreEntities, Entities, Within}
 use Rattle.psg_grammar.specs.Lookups.{is_declares, is_scope, key_at, key_of, next_item}
 use Rattle.psg_grammar.specs.Open.{AgreeOpen, Agrees, Choice, Holds, IsOpen}
-use Rattle.psg_grammar.specs.Regions.{AreDistinct, DistinctBelow, declared_inside, names_inside, passing, unfinished_inside}
+use Rattle.psg_grammar.specs.Regions.{DistinctBelow, declared_inside, names_inside, passing, unfinished_inside}
 use Rattle.psg_grammar.specs.WellFormed.{Fits, IsName}
 use Rattle.psg_grammar.proofs.MixedEntities.{mixed, mixed_entities}
 use Rattle.psg_completions.specs.Counts.{count, one_if}

@@ -10,7 +10,7 @@ use Rattle.psg_grammar.specs.Open.{IsOpen}
 use Rattle.psg_completions.specs.Conditions.{HasTrueRows}
 use Rattle.psg_places.specs.declared.halving.Found.{Found}
 use Rattle.psg_places.specs.Answers.{HasMore, IsMost, IsNextFound, next_tree, trials_work, with_found}
-use Rattle.psg_places.specs.Blame.{AreAllAnswers, AreAnswers, IsFalling, IsNoneWhereGood, blamed_in, kept_in, kept_of_first, most_blamed, none_kept}
+use Rattle.psg_places.specs.Blame.{AreAllAnswers, IsFalling, IsNoneWhereGood, blamed_in, kept_in, kept_of_first, most_blamed, none_kept}
 use Rattle.psg_places.specs.NewNames.{new_name}
 use Rattle.psg_places.specs.Opened.{opened}
 use Rattle.psg_places.specs.Places.{place_count}

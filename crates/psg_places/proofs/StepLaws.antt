@@ -1,5 +1,5 @@
 -- One more place is opened, after which all are open: what becomes of the tree.
-use Rattle.std.proofs.Common.{◌≡◌, ◌⊎◌, inl, inr, ℕ, zero, suc, ◌+◌, ◌<◌, ◌≤◌, Bool, true, false, cond, ◌||◌, ◌&&◌, not, List, [], ◌∷◌, ◌++◌, bytes_eq, refl, ap, ap₂, sym, ◌∙◌, subst, arith, true≢false, slice_get, Some}
+use Rattle.std.proofs.Common.{◌≡◌, ◌⊎◌, inl, inr, ℕ, ◌+◌, ◌<◌, ◌≤◌, Bool, true, false, cond, ◌||◌, ◌&&◌, not, List, [], ◌∷◌, ◌++◌, bytes_eq, refl, ap, ap₂, sym, ◌∙◌, subst, arith, true≢false, slice_get, Some}
 use Rattle.std.proofs.lemmas.Bool.{cases_Bool, cases_lt, or_left, or_right}
 use Rattle.psg_terms.specs.Names.{Name, has_twice, is_among}
 use Rattle.psg_terms.proofs.DeclareLaws.{bytes_eq-same}
@@ -21,7 +21,7 @@ use Rattle.psg_grammar.proofs.Closed.{closed}
 use Rattle.psg_grammar.proofs.DeclaringLaws.{declares_found, found_declares}
 use Rattle.psg_grammar.proofs.SoundParts.{elements_in, items_in, phylum_in}
 use Rattle.psg_completions.specs.Counts.{count, one_if}
-use Rattle.psg_completions.proofs.Counting.{none_among, once_of}
+use Rattle.psg_completions.proofs.Counting.{once_of}
 use Rattle.psg_completions.proofs.NameLaws.{among_left, among_one, among_parts, among_right}
 use Rattle.psg_completions.proofs.Quiet.{quiet as quiet_kind}
 use Rattle.psg_completions.proofs.Tops.{next_is}
@@ -29,7 +29,7 @@ use Rattle.psg_eval.specs.Glues.{outer_names}
 use Rattle.psg_renaming.specs.Occurring.{occurring}
 use Rattle.psg_places.specs.Opened.{contents, name_or_fresh, opened, opened_child, opened_element}
 use Rattle.psg_places.specs.Places.{child_size, content_count, declared_count, element_size, has_no_placeholder, is_hole, is_list, may_go_on, phylum_of, place_count}
-use Rattle.psg_places.proofs.FormedLaws.{both_ways, child_plain, fits, node_top, opened_hole, plain}
+use Rattle.psg_places.proofs.FormedLaws.{fits, node_top, opened_hole, plain}
 use Rattle.psg_places.proofs.LooserLaws as looser
 use Rattle.psg_places.proofs.LooserLaws.{Loosens, seen_plain}
 use Rattle.psg_places.proofs.OfPlacesLaws as of

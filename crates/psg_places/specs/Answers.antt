@@ -19,18 +19,18 @@ use Rattle.psg_places.specs.declared.fault.BlameFault.{BlameFault}
 use Rattle.psg_places.specs.declared.fault.BlameFault.TheVariants.{Limit, Memory}
 use Rattle.psg_places.specs.declared.trial.Trial.{Trial}
 use Rattle.psg_places.specs.Blame.{AreAllAnswers, AreAnswers, blamed_in, kept_in, most_blamed, none_kept}
-use Rattle.psg_places.specs.NewNames.{AreNew, new_name}
+use Rattle.psg_places.specs.NewNames.{AreNew, IsFront, new_name}
 use Rattle.psg_places.specs.Opened.{opened}
 use Rattle.psg_places.specs.Places.{place_count}
 
--- The answer: which places are kept, for all choices of new names, and the tree of the kept places for one choice. That
--- tree can take the place of the whole tree, its names can be written if those of the whole tree can, and if nothing is
--- blamed it is the whole tree.
+-- The answer: which places are kept, for all choices of new names, and the tree of the kept places for one choice, where
+-- a new name is some letters, an a and the number of its place. That tree can take the place of the whole tree, its names
+-- can be written if those of the whole tree can, and if nothing is blamed it is the whole tree.
 pub record IsFound (IsGood : Fragment → Type 0) (def : Definition) (f : Fragment) (b : Blamed) : Type 0 where
   pub answers : (fresh : ℕ → Name) → AreNew def f fresh → AreAllAnswers IsGood def fresh f b.kept
-  pub fresh : ℕ → Name
-  pub new : AreNew def f fresh
-  pub repaired : b.repaired ≡ opened def (kept_in b.kept) fresh f
+  pub names : IsFront def f b.names
+  pub new : AreNew def f (new_name b.names)
+  pub repaired : b.repaired ≡ opened def (kept_in b.kept) (new_name b.names) f
   pub good : IsGood b.repaired
   pub formed : (kind : Kind) → WellFormed def f kind → WellFormed def b.repaired kind
   pub printable : IsPrintable f → IsPrintable b.repaired

@@ -1,5 +1,5 @@
 -- The tree in which only some of its places are kept, by the places themselves.
-use Rattle.std.specs.Prelude.{ℕ, zero, suc, ◌≡◌, ◌+◌, ◌||◌, ◌&&◌, not, Bool, cond, List, [], ◌∷◌, length, Option, Some, None}
+use Rattle.std.specs.Prelude.{ℕ, suc, ◌≡◌, ◌||◌, ◌&&◌, not, Bool, cond, List, [], length}
 use Rattle.std.specs.Prelude.{slice_get, unwrap_or}
 use Rattle.psg_terms.specs.Names.{Name as Word}
 use Rattle.psg_grammar.specs.declared.types.Definition.{Definition}

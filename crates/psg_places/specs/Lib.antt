@@ -6,3 +6,4 @@ pub mod Blame
 pub mod Openings
 pub mod Listings
 pub mod Answers
+pub mod Ways

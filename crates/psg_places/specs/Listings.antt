@@ -1,5 +1,5 @@
--- The blamed places of a tree, listed by path.
-use Rattle.std.specs.Prelude.{ℕ, suc, ◌≡◌, ◌+◌, ◌&&◌, not, Bool, true, false, cond, List, [], ◌∷◌, ◌++◌, length, Option, Some, None}
+-- The opened and the blamed places of a tree, listed by path.
+use Rattle.std.specs.Prelude.{ℕ, suc, ◌≡◌, ◌+◌, not, Bool, false, cond, List, [], ◌∷◌, ◌++◌, length, Option, Some, None}
 use Rattle.std.specs.Prelude.{slice_get}
 use Rattle.psg_grammar.specs.declared.types.Definition.{Definition}
 use Rattle.psg_grammar.specs.Fragments.{Fragment}
@@ -11,7 +11,13 @@ use Rattle.psg_places.specs.declared.passing.What.{What}
 use Rattle.psg_places.specs.declared.passing.What.TheVariants as what
 use Rattle.psg_places.specs.declared.place.Place.{Place}
 use Rattle.psg_places.specs.declared.place.Place.TheVariants.{Node, Element, End, Name}
+use Rattle.psg_places.specs.Blame.{kept_in}
 use Rattle.psg_places.specs.Places.{below, child_places, content_places, declared_places, has_no_placeholder}
+
+-- the places among these that are not kept, of which the first has the number n
+abbrev pub opened_among : List Bool → ℕ → List Place → List Place
+opened_among kept n [] = []
+opened_among kept n (p ∷ ps) = cond (not (kept_in kept n)) (p ∷ []) [] ++ opened_among kept (suc n) ps
 
 abbrev pub is_some_false : Option Bool → Bool
 is_some_false None = false
@@ -28,10 +34,10 @@ blamed_among kept n (p ∷ ps) = cond (is_blamed kept n) (p ∷ []) [] ++ blamed
 
 -- ---- steps of the walk
 
--- After these places their number is added, and those of them that are blamed.
+-- After these places their number is added, and those of them that are opened.
 pub record Lists (kept : List Bool) (ps : List Place) (old new : Listing) : Type 0 where
   pub seen : new.seen ≡ old.seen + length ps
-  pub found : new.found.items ≡ old.found.items ++ blamed_among kept old.seen ps
+  pub found : new.found.items ≡ old.found.items ++ opened_among kept old.seen ps
 
 abbrev pub place_by : What → Path → Place
 place_by what.Node path = Node path

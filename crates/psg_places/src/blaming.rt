@@ -35,6 +35,8 @@ pub struct Blamed {
     pub kept: Seq<bool>,
     /// The tree of the kept places. The others are opened, and all after the hundredth that is not kept.
     pub repaired: Tree,
+    /// The letters that each new name begins with. An a and the number of the name's place follow.
+    pub names: Txt,
 }
 
 /// Finds which places of the tree are blamed. A place is kept exactly if the tree has a completion with it and the kept
@@ -90,6 +92,7 @@ pub fn blame<L: Ledger>(
     Ok(Some(Blamed {
         kept: Seq::of(kept),
         repaired: last.tree,
+        names: front,
     }))
 }
 

@@ -99,8 +99,9 @@ fn write_number(out: &mut String, value: usize) -> Result<(), AllocError>
     out.push_str(buffer.format(value))
 }
 
-/// Returns the new name for the place of the number.
-pub(crate) fn new_name(alloc: Global, front: &Txt, place: usize) -> Result<Txt, AllocError>
+/// Returns the new name for the place of the number, where new names begin with the letters of the front: these letters,
+/// an a and the number. An error says that memory ran out.
+pub fn new_name(alloc: Global, front: &Txt, place: usize) -> Result<Txt, AllocError>
     ensures { IfOk result (λ name. name ≡ new_name_of front.now place) }
 {
     let mut letters = String::new(alloc);

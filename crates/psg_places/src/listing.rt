@@ -1,18 +1,19 @@
-//! The blamed places of a tree, by path.
+//! The places of a tree that are not kept, by path.
 ghost use Rattle.std.specs.Prelude.{◌≡◌, ◌&&◌, ◌∷◌, [], cond, not, true, IfOk, OnOk};
 ghost use Rattle.psg_cache.specs.Notes.{AreTables};
 ghost use Rattle.psg_grammar.specs.Fragments.{operator};
 ghost use Rattle.psg_grammar.specs.Sound.{IsSound};
 ghost use Rattle.psg_tree.specs.Shapes.{with_parts};
 ghost use Rattle.psg_places.specs.Listings as listings;
-ghost use Rattle.psg_places.specs.Listings.{Lists, blamed_among, place_by};
+ghost use Rattle.psg_places.specs.Blame.{blamed_in};
+ghost use Rattle.psg_places.specs.Listings.{Lists, blamed_among, opened_among, place_by};
 ghost use Rattle.psg_places.specs.Openings.{IsKnown};
 ghost use Rattle.psg_places.specs.Places.{content_places, places_of};
 ghost use Rattle.psg_places.specs.declared.passing.What.TheVariants.{End as EndOf, Node as NodeOf};
 
 use crate::counting::{goes_on, has_no_placeholder, is_declared, is_hole};
 use crate::declaring::pass_declared;
-use crate::numbers::plus;
+use crate::numbers::{one_if, plus};
 use crate::opening::{Keeping, is_end_place};
 use crate::passing::{Listing, What, below, children_in, names_in, pass, pass_name};
 use crate::place::Place;
@@ -287,6 +288,76 @@ fn pass_tree(
     Ok(())
 }
 
+/// Lists the places of a tree that are not kept, in the order of the text, also those after the last answer. A place
+/// below a node that is not kept is not listed unless it is not kept itself. The call walks once over the tree, and twice
+/// over what declares. An error says that memory ran out, or that a list has so many elements that no path has a step to
+/// the last.
+pub fn opened_places(
+    alloc: Global,
+    definition: &Definition,
+    tables: &Tables,
+    kept: &[bool],
+    tree: &Tree,
+) -> Result<Vec<Place>, AllocError>
+    requires sound { IsSound definition.now }
+    requires tables { AreTables definition.now tables.now }
+    ensures { IfOk result (λ found. found.items ≡ opened_among kept.now 0 (places_of definition.now tree.now)) }
+{
+    let spaces = tables.spaces();
+    // no name is asked for
+    let front = Txt::of(alloc, String::new(alloc))?;
+    let keeping = Keeping {
+        definition,
+        spaces,
+        keep: kept,
+        front: &front,
+    };
+    let found = Vec::new(alloc);
+    let mut listing = Listing { seen: 0, found };
+    pass_tree(alloc, keeping, tree, &mut listing)?;
+    Ok(listing.found)
+}
+
+/// Lists all places of a tree, in the order of the text. The number of a place is its position in this list. The call
+/// walks once over the tree, and twice over what declares. An error says that memory ran out, or that a list has so many
+/// elements that no path has a step to the last.
+pub fn all_places(
+    alloc: Global,
+    definition: &Definition,
+    tables: &Tables,
+    tree: &Tree,
+) -> Result<Vec<Place>, AllocError>
+    requires sound { IsSound definition.now }
+    requires tables { AreTables definition.now tables.now }
+    ensures { IfOk result (λ found. found.items ≡ places_of definition.now tree.now) }
+{
+    let found = opened_places(alloc, definition, tables, &[], tree)?;
+    Ok(found)
+}
+
+/// Says whether the place of the number is blamed: there is an answer for it, and it is not kept.
+fn is_blamed(kept: &[bool], number: usize) -> bool
+    ensures { result ≡ listings.is_blamed kept.now number }
+{
+    match kept.get(number) {
+        Some(kept) => !*kept,
+        None => false,
+    }
+}
+
+/// Counts the places that are blamed by these answers.
+fn blamed_count(kept: &[bool]) -> usize
+    ensures { result ≡ blamed_in kept.now }
+{
+    let mut total = 0;
+    for i in 0..kept.len() {
+        let blamed = is_blamed(kept, i);
+        let more = one_if(blamed);
+        total += more;
+    }
+    total
+}
+
 /// Lists the blamed places of a tree, in the order of the text, by the answers of `blame`: those of its places for which
 /// there is an answer, and which are not kept. A place below a blamed node is not listed unless it is blamed itself. The
 /// call walks once over the tree, and twice over what declares. An error says that memory ran out, or that a list has so
@@ -302,17 +373,8 @@ pub fn blamed_places(
     requires tables { AreTables definition.now tables.now }
     ensures { IfOk result (λ found. found.items ≡ blamed_among kept.now 0 (places_of definition.now tree.now)) }
 {
-    let spaces = tables.spaces();
-    // no name is asked for
-    let front = Txt::of(alloc, String::new(alloc))?;
-    let keeping = Keeping {
-        definition,
-        spaces,
-        keep: kept,
-        front: &front,
-    };
-    let found = Vec::new(alloc);
-    let mut listing = Listing { seen: 0, found };
-    pass_tree(alloc, keeping, tree, &mut listing)?;
-    Ok(listing.found)
+    let mut found = opened_places(alloc, definition, tables, kept, tree)?;
+    let count = blamed_count(kept);
+    found.truncate(count);
+    Ok(found)
 }

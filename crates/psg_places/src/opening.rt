@@ -60,7 +60,7 @@ struct OpenedElements {
 }
 
 /// Says whether the place is kept.
-fn keeps(keep: &[bool], place: usize) -> bool
+pub(crate) fn keeps(keep: &[bool], place: usize) -> bool
     ensures { result ≡ kept_in keep.now place }
 {
     match keep.get(place) {

@@ -1,12 +1,13 @@
-//! Places that are passed in their order, and those of them that are blamed.
-ghost use Rattle.std.specs.Prelude.{◌≡◌, ◌++◌, ◌∷◌, [], cond, IfOk, OnOk};
+//! Places that are passed in their order, and those of them that are not kept.
+ghost use Rattle.std.specs.Prelude.{◌≡◌, ◌++◌, ◌∷◌, [], cond, not, IfOk, OnOk};
+ghost use Rattle.psg_places.specs.Blame.{kept_in};
 ghost use Rattle.psg_places.specs.Listings as listings;
 ghost use Rattle.psg_places.specs.Listings.{Lists, place_by};
 ghost use Rattle.psg_places.specs.Places.{below as below_of};
 ghost use Rattle.psg_places.specs.declared.passing.What.TheVariants.{Name as NameOf};
 
 use crate::numbers::{plus, step_of};
-use crate::opening::Keeping;
+use crate::opening::{Keeping, keeps};
 use crate::place::Place;
 use psg_tree::{Part, Path};
 use std::alloc::{AllocError, Global};
@@ -16,7 +17,7 @@ use std::alloc::{AllocError, Global};
 pub(crate) struct Listing {
     /// How many places were passed.
     pub(crate) seen: usize,
-    /// Those of them that are blamed.
+    /// Those of them that are not kept.
     pub(crate) found: Vec<Place>,
 }
 
@@ -42,14 +43,11 @@ fn place_at(alloc: Global, what: What, path: &[u32]) -> Result<Place, AllocError
     }
 }
 
-/// Says whether the place of the number is blamed.
-fn is_blamed(kept: &[bool], number: usize) -> bool
-    ensures { result ≡ listings.is_blamed kept.now number }
+/// Says whether the place of the number is not kept.
+fn is_opened(keep: &[bool], number: usize) -> bool
+    ensures { result ≡ not (kept_in keep.now number) }
 {
-    match kept.get(number) {
-        Some(kept) => !*kept,
-        None => false,
-    }
+    !keeps(keep, number)
 }
 
 /// Adds the place if it is wanted.
@@ -69,7 +67,7 @@ fn put(
     Ok(())
 }
 
-/// Passes a place, and adds it if it is blamed.
+/// Passes a place, and adds it if it is not kept.
 pub(crate) fn pass(
     alloc: Global,
     keeping: Keeping,
@@ -80,7 +78,7 @@ pub(crate) fn pass(
     ensures { OnOk result (Lists keeping.entry.keep.now (place_by what path.now ∷ []) listing.old listing.new) }
 {
     let next = plus(listing.seen, 1)?;
-    let wanted = is_blamed(keeping.keep, listing.seen);
+    let wanted = is_opened(keeping.keep, listing.seen);
     put(alloc, wanted, what, path, &mut listing.found)?;
     listing.seen = next;
     Ok(())

@@ -56,6 +56,25 @@ pub(crate) fn kept_tree(
     Ok(opened)
 }
 
+/// Returns the tree in which only the kept places of a tree are kept. The places after the last answer are opened. A name
+/// that is opened becomes the letters of `names`, an a and the number of its place, as in the repaired tree of an answer
+/// with these letters. It walks over the tree, and twice over what declares. An error says that memory ran out.
+pub fn kept_part(
+    alloc: Global,
+    definition: &Definition,
+    tables: &Tables,
+    names: &Txt,
+    kept: &[bool],
+    tree: &Tree,
+) -> Result<Tree, AllocError>
+    requires sound { IsSound definition.now }
+    requires tables { AreTables definition.now tables.now }
+    ensures { IfOk result (λ part. part ≡ opened definition.now (kept_in kept.now) (new_name names.now) tree.now) }
+{
+    let opened = kept_tree(alloc, definition, tables, names, kept, tree)?;
+    Ok(opened.tree)
+}
+
 /// Returns the fault of a tree with these places kept.
 fn limit(keep: Vec<bool>, fault: NoteFault) -> BlameFault
     ensures { IsLimitOf keep.items fault result }

@@ -1,3 +1,4 @@
 //! Programs of MINI with mistakes.
 mod languages;
+mod parts;
 mod programs;

@@ -60,7 +60,7 @@ fn counted<L: Ledger>(
 }
 
 /// The blame of the tree.
-fn blamed(
+pub(super) fn blamed(
     alloc: Global,
     definition: &Definition,
     tables: &Tables,
@@ -74,7 +74,7 @@ fn blamed(
 }
 
 /// Writes a path, as `/0/1`, and `/` for that of the root.
-fn write_path(text: &mut String, what: &str, path: &Path) -> Result<(), AllocError> {
+pub(super) fn write_path(text: &mut String, what: &str, path: &Path) -> Result<(), AllocError> {
     text.push_str(what)?;
     if path.steps().is_empty() {
         text.push_str("/")?;
@@ -85,7 +85,7 @@ fn write_path(text: &mut String, what: &str, path: &Path) -> Result<(), AllocErr
     Ok(())
 }
 
-fn write_place(text: &mut String, place: &Place) -> Result<(), AllocError> {
+pub(super) fn write_place(text: &mut String, place: &Place) -> Result<(), AllocError> {
     match place {
         Place::Node(path) => write_path(text, "node ", path),
         Place::Element(path) => write_path(text, "element ", path),

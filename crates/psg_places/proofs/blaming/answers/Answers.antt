@@ -1,10 +1,8 @@
-use Rattle.std.proofs.Common.{◌≡◌, inl, inr, ℕ, ◌∙◌, ◌+◌, ◌*◌, ◌<◌, ◌≤◌, ◌^◌, cond, length, refl, ap, sym, subst, arith}
-use Rattle.psg_completions.specs.Conditions.{HasTrueRows}
+use Rattle.std.proofs.Common.{◌≡◌, inl, inr, ◌∙◌, ◌+◌, ◌*◌, ◌<◌, ◌^◌, length, ap, sym, subst, arith}
 use Rattle.psg_grammar.specs.Open.{IsOpen}
 use Rattle.psg_grammar.specs.Work.{work_of}
-use Rattle.psg_places.specs.declared.fault.BlameFault.TheVariants.{Memory}
 use Rattle.psg_places.specs.Answers.{HasMore, IsBlameFault, IsNextFound, next_tree, trials_work}
-use Rattle.psg_places.specs.Blame.{IsFalling, blamed_in, most_blamed}
+use Rattle.psg_places.specs.Blame.{most_blamed}
 use Rattle.psg_places.specs.NewNames.{new_name}
 use Rattle.psg_places.specs.Places.{place_count}
 use Rattle.psg_places.proofs.AnswerLaws.{all_answers, passed, stopped}

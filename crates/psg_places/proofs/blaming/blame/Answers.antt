@@ -97,7 +97,7 @@ returns-clause-open g c rows =
       answers = λ other as_new.
           answers_for (IsOpen def) def tree (open_for_all def tree) fresh other new as_new c.of.result
           (subst (λ ks. AreAllAnswers (IsOpen def) def fresh tree ks) (sym is) own);
-      fresh = fresh;
+      names = c.in_ok-front.ensures;
       new = new;
       repaired = repaired;
       good = subst (IsOpen def) (sym plain) (repaired_good (IsOpen def) def fresh tree c.in_ok-kept.kept.items own);
@@ -132,7 +132,7 @@ returns-clause-completable g c rows =
       answers = λ other as_new.
           answers_for (IsCompletable def) def tree all fresh other new as_new c.of.result
           (subst (λ ks. AreAllAnswers (IsCompletable def) def fresh tree ks) (sym is) own);
-      fresh = fresh;
+      names = c.in_ok-front.ensures;
       new = new;
       repaired = repaired;
       good = subst (IsCompletable def) (sym plain) (repaired_good (IsCompletable def) def fresh tree c.in_ok-kept.kept.items own);

@@ -1,9 +1,8 @@
-use Rattle.std.proofs.Common.{◌≡◌, ◌+◌, ◌<◌, ◌≤◌, ◌^◌, ◌∙◌, true, false, length, refl, ap, sym, subst, arith, true≢false}
-use Rattle.psg_grammar.specs.Open.{IsOpen}
+use Rattle.std.proofs.Common.{arith}
 use Rattle.psg_grammar.specs.Work.{work_of}
 use Rattle.psg_places.specs.Answers.{IsBlameFault}
-use Rattle.psg_places.proofs.AnswerLaws.{passed, was_false, was_true}
-use Rattle.psg_places.proofs.SearchLaws.{all_found, left_more, one_and_more, one_at_most, one_found}
+use Rattle.psg_places.proofs.AnswerLaws.{passed}
+use Rattle.psg_places.proofs.SearchLaws.{left_more, one_and_more, one_at_most}
 use Rattle.psg_places.proofs.halving.next_found.Goals as goal
 
 pub keeps_next-requires-clause-small : goal.keeps_next-requires-clause-small

@@ -1,4 +1,4 @@
-use Rattle.std.proofs.Common.{◌∙◌, ◌∷◌, [], false, cond, not, ap, arith, sym}
+use Rattle.std.proofs.Common.{◌∙◌, ◌∷◌, [], false, ap, arith, sym}
 use Rattle.psg_grammar.specs.Fragments.{operator}
 use Rattle.psg_tree.specs.Shapes.{height, with_parts, list_of, tree_of}
 use Rattle.psg_tree.proofs.Heights.{part_in, element_in, op_height, list_height, height-list_of}
