@@ -113,6 +113,15 @@ abbrev pub with_kept : List (List ℕ) → List ℕ → List (List ℕ)
 with_kept earlier [] = earlier
 with_kept earlier (c ∷ text) = earlier ++ (c ∷ text) ∷ []
 
+-- another line takes the place of the one that is typed
+abbrev pub with_put : List ℕ → TypedLines → TypedLines
+with_put text lines = record {
+  line = record { before = text; after = [] };
+  earlier = lines.earlier;
+  shown = length lines.earlier;
+  draft = [];
+}
+
 -- the line is the latest earlier one, and a new one begins
 abbrev pub kept_after : TypedLines → TypedLines
 kept_after lines = record {

@@ -1,7 +1,7 @@
 //! A line of text with the lines that were typed before it.
 ghost use Rattle.std.specs.Prelude.{◌≡◌, ◌==◌, ◌+◌, ◌-◌, ◌≤◌, IfOk, OnErr, OnOk, is_some, length, map, unwrap_or};
 ghost use Rattle.std.specs.Prelude.{nat_lt, slice_index_or, if◌then◌else◌};
-ghost use Rattle.psg_keys.specs.Lines.{lines_after, with_shown, with_kept, kept_after, at_first_line};
+ghost use Rattle.psg_keys.specs.Lines.{lines_after, with_shown, with_kept, with_put, kept_after, at_first_line};
 
 use crate::key::Key;
 use crate::line::Line;
@@ -86,6 +86,16 @@ impl Lines {
         self.line = Line::new(alloc);
         self.draft = Vec::new(alloc);
         Ok(())
+    }
+
+    /// Puts these characters in place of the line, with the cursor after the last one. The earlier lines stay. Takes no
+    /// memory; `alloc` keeps what is typed later.
+    pub fn put(&mut self, alloc: Global, text: Vec<char>)
+        ensures { self.new ≡ with_put text.items self.old }
+    {
+        self.line = Line::of(text);
+        self.shown = self.earlier.len();
+        self.draft = Vec::new(alloc);
     }
 
     fn show_earlier(&mut self, alloc: Global) -> Result<(), AllocError>
