@@ -10,29 +10,45 @@ use psg_defread::read_definition;
 use psg_explain::{Explained, Label, Reason, Refutation, check_refutation, explain, last_reasons};
 use psg_session::Session;
 use psg_specimen::{Language, accept};
-use psg_terms::{Signature, Steps, term_text};
+use psg_terms::{Node, Signature, Steps, Term};
 use psg_world::MemFiles;
 use std::alloc::{AllocError, Global};
 use std::marker::Brand;
 use std::process::Abort;
 use std::sync::ledger::{Blank, Ledger};
 
-/// Returns the session after the lines of the script, in the language of the definition.
-fn played<L: Ledger>(
-    alloc: Global,
-    definition: &str,
-    script: &str,
-    steps: &mut Steps<L>,
-) -> Result<Session, AllocError> {
+/// Returns the language of the definition.
+fn language_of(alloc: Global, definition: &str) -> Result<Language, AllocError> {
+    if definition.len() >= 1_048_576 {
+        return Err(AllocError);
+    }
     let Ok(read) = read_definition(alloc, definition.as_bytes()) else {
         return Err(AllocError);
     };
-    let Ok(language) = accept(alloc, read) else {
-        return Err(AllocError);
-    };
+    match accept(alloc, read) {
+        Ok(language) => Ok(language),
+        Err(_) => Err(AllocError),
+    }
+}
+
+fn lines_of(alloc: Global, script: &str) -> Result<Vec<String>, AllocError> {
+    let mut lines = Vec::new(alloc);
+    for line in script.lines() {
+        lines.push(String::from_str(alloc, line)?)?;
+    }
+    Ok(lines)
+}
+
+/// Returns the session after the lines, in the language.
+fn played<L: Ledger>(
+    alloc: Global,
+    language: Language,
+    lines: &[String],
+    steps: &mut Steps<L>,
+) -> Result<Session, AllocError> {
     let mut session = Session::new(alloc, language)?;
     let mut files = MemFiles::new(alloc, Vec::new(alloc), Vec::new(alloc));
-    for line in script.lines() {
+    for line in lines {
         session.apply_line(alloc, line.as_bytes(), &mut files, steps)?;
     }
     Ok(session)
@@ -56,13 +72,49 @@ fn label_text(alloc: Global, label: Label) -> Result<String, AllocError> {
     }
 }
 
+/// Writes what is before the argument of the number.
+fn push_before(text: &mut String, number: usize) -> Result<(), AllocError> {
+    if number == 0 {
+        text.push_str("(")?;
+    } else {
+        text.push_str(",")?;
+    }
+    Ok(())
+}
+
+/// Returns the text of a term that is at most so deep.
+fn term_text(alloc: Global, sig: &Signature, term: &Term, deep: u32) -> Result<String, AllocError> {
+    let Some(less) = deep.checked_sub(1) else {
+        return Ok(String::from_str(alloc, "..")?);
+    };
+    match term.node() {
+        Node::Var { number, .. } => Ok(format!(in alloc; "?{number}")?),
+        Node::Con { con, args } => {
+            let mut text = String::new(alloc);
+            if con.0 < sig.constructors() {
+                text.push_str(sig.constructor(*con).name.as_str())?;
+            }
+            let args = args.as_slice();
+            for i in 0..args.len() {
+                push_before(&mut text, i)?;
+                let arg = term_text(alloc, sig, &args[i], less)?;
+                text.push_str(arg.as_str())?;
+            }
+            if !args.is_empty() {
+                text.push_str(")")?;
+            }
+            Ok(text)
+        }
+    }
+}
+
 fn reason_text(alloc: Global, sig: &Signature, reason: &Reason) -> Result<String, AllocError> {
     let (word, left, right) = match reason {
         Reason::Clash(left, right) => ("clash", left, right),
         Reason::Circle(left, right) => ("circle", left, right),
     };
-    let one = term_text(alloc, sig, left)?;
-    let other = term_text(alloc, sig, right)?;
+    let one = term_text(alloc, sig, left, 32)?;
+    let other = term_text(alloc, sig, right, 32)?;
     Ok(format!(in alloc; "{word} {one} = {other}")?)
 }
 
@@ -101,15 +153,18 @@ fn wrong_text(
         let path = path_text(alloc, path.steps())?;
         text.push_str(format!(in alloc; "twice {path} {space} {name}\n")?.as_str())?;
     }
+    let right = check_refutation(alloc, language, note.tree(), refutation)?;
+    if !right {
+        text.push_str("refused\n")?;
+        return Ok(text);
+    }
     let told = last_reasons(alloc, language, note.tree(), refutation)?;
     for case in told.as_slice() {
         let label = label_text(alloc, case.label)?;
         let reason = reason_text(alloc, &language.definition().signature, &case.reason)?;
         text.push_str(format!(in alloc; "{label} {reason}\n")?.as_str())?;
     }
-    if check_refutation(alloc, language, note.tree(), refutation)? {
-        text.push_str("checked\n")?;
-    }
+    text.push_str("checked\n")?;
     Ok(text)
 }
 
@@ -131,8 +186,8 @@ fn explained<L: Ledger>(
 
 fn counted<L: Ledger>(
     alloc: Global,
-    definition: &str,
-    script: &str,
+    language: Language,
+    lines: &[String],
     ledger: Blank,
 ) -> Result<String, AllocError>
     requires name { ledger.name ≡ L.name }
@@ -140,7 +195,7 @@ fn counted<L: Ledger>(
     requires some { 0 < L.parts }
 {
     let mut steps = Steps::<L>::of(ledger);
-    let session = played(alloc, definition, script, &mut steps)?;
+    let session = played(alloc, language, lines, &mut steps)?;
     explained(alloc, &session, &mut steps)
 }
 
@@ -152,15 +207,17 @@ fn says(
     script: &str,
     output: &str,
 ) -> Result<(), AllocError> {
-    let text = counted::<Brand>(alloc, definition, script, Blank::new(1))?;
+    let language = language_of(alloc, definition)?;
+    let lines = lines_of(alloc, script)?;
+    let text = counted::<Brand>(alloc, language, lines.as_slice(), Blank::new(1))?;
     assert!(rt; text.as_str() == output, "{script}{text}");
     Ok(())
 }
 
 fn both_counted<L: Ledger>(
     alloc: Global,
-    definition: &str,
-    script: &str,
+    language: Language,
+    lines: &[String],
     ledger: Blank,
 ) -> Result<(bool, bool), AllocError>
     requires name { ledger.name ≡ L.name }
@@ -168,11 +225,13 @@ fn both_counted<L: Ledger>(
     requires some { 0 < L.parts }
 {
     let mut steps = Steps::<L>::of(ledger);
-    let session = played(alloc, definition, script, &mut steps)?;
+    let session = played(alloc, language, lines, &mut steps)?;
     changed::right_and_changed(alloc, &session, &mut steps)
 }
 
 /// Says whether the refutation of the script's tree is right, and whether it still is with another number.
 fn explained_of(alloc: Global, definition: &str, script: &str) -> Result<(bool, bool), AllocError> {
-    both_counted::<Brand>(alloc, definition, script, Blank::new(1))
+    let language = language_of(alloc, definition)?;
+    let lines = lines_of(alloc, script)?;
+    both_counted::<Brand>(alloc, language, lines.as_slice(), Blank::new(1))
 }

@@ -1,9 +1,13 @@
 //! Refutations in which one thing is changed.
+ghost use Rattle.psg_cache.specs.Notes.{IsFormed};
+
 use super::explained_of;
 use psg_explain::{Claim, Explained, Refutation, Verdict, check_refutation, explain};
 use psg_langs::MINI;
 use psg_session::Session;
+use psg_specimen::Language;
 use psg_terms::{Seq, Steps};
+use psg_tree::Tree;
 use std::alloc::{AllocError, Global};
 use std::sync::ledger::Ledger;
 use std::test::Fail;
@@ -51,19 +55,41 @@ pub(super) fn right_and_changed<L: Ledger>(
         return Ok((false, true));
     };
     let language = session.language();
-    let Explained::Wrong(refutation) = explain(alloc, language, note, steps)? else {
-        return Ok((false, true));
-    };
-    let right = check_refutation(alloc, language, note.tree(), &refutation)?;
-    let Refutation::Empty { path, claims } = refutation else {
-        return Ok((right, true));
-    };
-    let other = Refutation::Empty {
-        path,
-        claims: Seq::of(with_other_number(alloc, claims.into_vec())?),
-    };
-    let changed = check_refutation(alloc, language, note.tree(), &other)?;
-    Ok((right, changed))
+    match explain(alloc, language, note, steps)? {
+        Explained::Fine => Ok((false, true)),
+        Explained::Long => Ok((false, true)),
+        Explained::Wrong(refutation) => {
+            let right = check_refutation(alloc, language, note.tree(), &refutation)?;
+            let changed = is_right_changed(alloc, language, note.tree(), refutation)?;
+            Ok((right, changed))
+        }
+    }
+}
+
+/// Says whether the refutation is right with another number; one without claims is not tried.
+fn is_right_changed(
+    alloc: Global,
+    language: &Language,
+    tree: &Tree,
+    refutation: Refutation,
+) -> Result<bool, AllocError>
+    requires { IsFormed language.now tree.now }
+{
+    match refutation {
+        Refutation::Twice {
+            path: _path,
+            space: _,
+            name: _name,
+        } => Ok(true),
+        Refutation::Empty { path, claims } => {
+            let other = Refutation::Empty {
+                path,
+                claims: Seq::of(with_other_number(alloc, claims.into_vec())?),
+            };
+            let changed = check_refutation(alloc, language, tree, &other)?;
+            Ok(changed)
+        }
+    }
 }
 
 #[test]
