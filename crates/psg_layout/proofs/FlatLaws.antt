@@ -1,6 +1,6 @@
 -- What a node is in one line, read off the plain text of the whole tree.
 use Rattle.std.proofs.Common.{◌≡◌, inl, inr, ℕ, ◌+◌, ◌-◌, ◌*◌, ◌==◌, ◌||◌, ◌&&◌, not, Bool, true, false, cond, List, [], ◌∷◌, ◌++◌, replicate, Option, Some, None, refl, ap, ap₂, sym, subst, ◌∙◌, append_assoc, arith}
-use Rattle.std.specs.Prelude.{nat_le}
+use Rattle.std.specs.Prelude.{nat_le, slice_get}
 use Rattle.std.specs.Str.{chars}
 use Rattle.std.specs.List.{list_any}
 use Rattle.std.proofs.lemmas.Bool.{true≢false, false≢true}
@@ -13,8 +13,8 @@ use Rattle.psg_unparse.specs.Spaced.{Put}
 use Rattle.psg_unparse.proofs.Rows.{last_in-append}
 use Rattle.psg_unparse.proofs.States.{State, state_of, after, runs, gap_by, gap_from, lead_is}
 use Rattle.psg_layout.specs.Pages.{width_of, chars_in, columns, has_feed, has_tokens, last_line, plain_chars}
-use Rattle.psg_layout.specs.Sheets.{feeds_in, gap_bytes, gap_of}
-use Rattle.psg_layout.specs.Walking.{fits_in}
+use Rattle.psg_layout.specs.Sheets.{feeds_in, gap_bytes, gap_of, own_chars}
+use Rattle.psg_layout.specs.Walking.{fits_in, is_own}
 use Rattle.psg_layout.proofs.LineLaws.{feeds-append, feeds-none, last_line-more, other_is_false}
 use Rattle.psg_layout.proofs.NodeLaws.{flat_of_puts}
 use Rattle.psg_layout.proofs.PlainLaws.{plain_puts}
@@ -208,3 +208,28 @@ pub fits_kept : (cols : ℕ) (line : List ℕ) (ps : List Put) (b r : Pieces)
     → fits_in cols line (flat_of_puts ps (plain_puts b r)).width ≡ (not (has_feed (plain_chars [] r)) && nat_le (columns line + columns (plain_chars [] r)) cols)
 fits_kept cols line ps b r =
     fits_puts cols line ps (plain_puts b r) ∙ fits_alike cols line (tail_chars (plain_puts b r)) (plain_chars [] r) (alike_tail b [] r refl)
+
+-- ---- nodes that may be copied
+
+own_some : (ps own : List Put) → is_own (flat_of_puts ps own) ≡ true → (flat_of_puts ps own).some ≡ true
+own_some ps [] e = absurd (false≢true e)
+own_some ps (x ∷ xs) e = refl
+
+pub own_kept : (ps : List Put) (b r : Pieces) → is_own (flat_of_puts ps (plain_puts b r)) ≡ true → has_tokens r ≡ true
+own_kept ps b r e = sym (some_is ps b r) ∙ own_some ps (plain_puts b r) e
+
+some_width : (hf : Bool) (c w : ℕ) → cond {A = Option ℕ} hf None (Some c) ≡ Some w → (hf ≡ false) × (c ≡ w)
+some_width true c w e = absurd (let f : None ≡ Some w = e in cc)
+some_width false c w e = (refl, (let f : Some c ≡ Some w = e in cc))
+
+pub width_kept : (ps own : List Put) (w : ℕ) → (flat_of_puts ps own).width ≡ Some w → (has_feed (own_chars own) ≡ false) × (columns (own_chars own) ≡ w)
+width_kept ps [] w e = (refl, (let f : Some 0 ≡ Some w = e in cc))
+width_kept ps (x ∷ xs) w e = some_width (has_feed (tail_chars (x ∷ xs))) (columns (tail_chars (x ∷ xs))) w (sym (flat_width ps x xs) ∙ e)
+
+front_char : (cs more : List ℕ) (h : ℕ) → slice_get cs 0 ≡ Some h → (rest : List ℕ) × (cs ++ more ≡ h ∷ rest)
+front_char [] more h e = absurd (let f : None ≡ Some h = e in cc)
+front_char (c ∷ cs) more h e = (cs ++ more, ap (λ z. z ∷ (cs ++ more)) (let f : Some c ≡ Some h = e in let g : c ≡ h = cc in g))
+
+pub head_kept : (ps own : List Put) (h : ℕ) → (flat_of_puts ps own).head ≡ Some h → (rest : List ℕ) × (own_chars own ≡ h ∷ rest)
+head_kept ps [] h e = absurd (let f : None ≡ Some h = e in cc)
+head_kept ps (x ∷ xs) h e = front_char (chars x.text) (chars_in xs) h e

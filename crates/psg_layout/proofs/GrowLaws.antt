@@ -156,7 +156,7 @@ module _ (layout : Layout) where
   grows_words mode o k (items.Out ∷ xs) p = grows_marked mode o k items.Out xs p (grows_words mode o k xs (with_mark p items.Out))
 
 module _ (def : Definition) (layout : Layout) (cols : ℕ) where
-  grows_asked : (b : Bool) (p q : Page) → Grows [] p q → Grows [] p (cond b q p)
+  pub grows_asked : (b : Bool) (p q : Page) → Grows [] p q → Grows [] p (cond b q p)
   grows_asked true p q a = a
   grows_asked false p q a = same_page p
 

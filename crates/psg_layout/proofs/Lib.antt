@@ -6,12 +6,15 @@ pub mod SheetLaws
 pub mod SpanLaws
 pub mod LookLaws
 pub mod DecideLaws
+pub mod OwnLaws
 pub mod WordLaws
 pub mod WayLaws
 pub mod GoesLaws
 pub mod NodeLaws
+pub mod CopyLaws
 pub mod AgreeLaws
 pub mod FlatLaws
+pub mod PartLaws
 pub mod WholeLaws
 pub mod RuleLaws
 pub mod ReadLaws

@@ -188,7 +188,7 @@ narrow_feed (c ∷ t) h =
     let p = and_parts (is_in_range 33 126 c) (are_narrow t) h in
     ap (λ b. b || has_feed t) (other_is_false c 10 (narrow_other c 10 p.0 (omega arith))) ∙ narrow_feed t p.1
 
-text_put : (old : LineEnd) (n k c : ℕ) (r : List ℕ) → n ≡ old.columns + columns (c ∷ r) → has_feed (c ∷ r) ≡ false → (c ≡ 32 → ⊥)
+pub text_put : (old : LineEnd) (n k c : ℕ) (r : List ℕ) → n ≡ old.columns + columns (c ∷ r) → has_feed (c ∷ r) ≡ false → (c ≡ 32 → ⊥)
     → ((cs : List ℕ) → IsEnd old cs → k ≡ spaces_before (last_line cs))
     → PutsChars (c ∷ r) old (record { feeds = old.feeds; columns = n; front = Some k })
 text_put old n k c r e single space known cs h =

@@ -1,5 +1,5 @@
 -- The nodes that a walk lists.
-use Rattle.std.proofs.Common.{◌≡◌, ℕ, ◌+◌, Bool, true, false, cond, List, [], ◌∷◌, ◌++◌, length, map, take, drop, Option, refl, ap, ap₂, sym, ◌∙◌, append-nil, append_assoc, length-append, arith, decimal}
+use Rattle.std.proofs.Common.{◌≡◌, ℕ, ◌+◌, ◌-◌, Bool, true, false, cond, List, [], ◌∷◌, ◌++◌, length, map, take, drop, Option, refl, ap, ap₂, sym, ◌∙◌, append-nil, append_assoc, length-append, arith, decimal}
 use Rattle.std.specs.Prelude.{slice_set, slice_index_or}
 use Rattle.std.proofs.Math.Seq.{set-append_seam, take-append_seam, drop-append_seam}
 use Rattle.std.proofs.lemmas.List.{map-append}
@@ -11,11 +11,12 @@ use Rattle.psg_unparse.specs.Spaced.{Put, text_in}
 use Rattle.psg_unparse.specs.Spots.{Spot, Placed, element_spot, rest_spot, child_spot, front_spot, leaf_spot, placed_from, placed_below}
 use Rattle.psg_layout.specs.declared.layout.Layout.{Layout}
 use Rattle.psg_layout.specs.declared.sheet.Begin.{Begin}
+use Rattle.psg_layout.specs.declared.marks.Marks.{Marks}
 use Rattle.psg_layout.specs.declared.nodes.Flat.{Flat}
 use Rattle.psg_layout.specs.declared.nodes.Node.{Node}
 use Rattle.psg_layout.specs.PutSpans.{tokens_in, first_gap, own_puts, span_in}
-use Rattle.psg_layout.specs.Pages.{chars_in}
-use Rattle.psg_layout.specs.Sheets.{Ink, begin_at, ink_row}
+use Rattle.psg_layout.specs.Pages.{Page, chars_in}
+use Rattle.psg_layout.specs.Sheets.{Ink, begin_at, ink_row, marks_of}
 use Rattle.psg_layout.specs.Arranged.{Mode, is_flat, next_number}
 use Rattle.psg_layout.specs.Walking.{Walk, Way, comes, within, comes_flat, begun_node, no_tokens, flat_from, ended, opened, closed, with_ink, with_path, stepped, flat_in, ink_at, ink_child, mode_at, sub_begun, sub_ended, words_after, leaf_put, below}
 use Rattle.psg_layout.proofs.GrowLaws.{tokens-append}
@@ -25,7 +26,7 @@ use Rattle.psg_layout.proofs.WayLaws.{below-path}
 -- what a node is in one line that has these tokens after the other ones
 abbrev pub flat_of_puts : List Put → List Put → Flat
 flat_of_puts ps [] = no_tokens
-flat_of_puts ps (x ∷ xs) = flat_from (begin_at ps x.gap) (chars_in (ps ++ x ∷ xs))
+flat_of_puts ps (x ∷ xs) = flat_from (begin_at ps x.gap x.text) (chars_in (ps ++ x ∷ xs))
 
 at_seam : (front : List Node) (s : Node) (back : List Node) (d : Node) → slice_index_or (front ++ s ∷ back) (length front) d ≡ s
 at_seam [] s back d = refl
@@ -67,29 +68,46 @@ module _ (def : Definition) (counts : Bool) (final : List Put) (top : List ℕ) 
   node_in p = record {
     span = record { path = cond counts top p.spot.path; start = (span_in def final p).start; end = (span_in def final p).end };
     flat = flat_of_puts (take (tokens_in p.spot.before) final) (own_puts def final p);
+    before = tokens_in p.spot.before;
+    own = tokens_in (row def p.node);
+    after = marks_of (p.spot.before ++ row def p.node);
+    count = length (placed_from def p.spot p.node);
   }
 
   -- the entry of a node that has these tokens
-  entry : (p : Placed) (ps a more : List Put) (path : List ℕ) → final ≡ ps ++ (a ++ more) → length ps ≡ tokens_in p.spot.before → length a ≡ tokens_in (row def p.node)
-      → path ≡ cond counts top p.spot.path → ended (first_begin ps a) (ps ++ a) (begun_node path ps) ≡ node_in p
-  entry p ps a more path e n m q =
-      let front : take (tokens_in p.spot.before) final ≡ ps = ap (take (tokens_in p.spot.before)) e ∙ take_at ps (a ++ more) (tokens_in p.spot.before) (sym n) in
-      let behind : drop (tokens_in p.spot.before) final ≡ a ++ more = ap (drop (tokens_in p.spot.before)) e ∙ drop_at ps (a ++ more) (tokens_in p.spot.before) (sym n) in
+  entry : (p : Placed) (u v : Page) (a more : List Put) (path : List ℕ) (n : ℕ) → v.puts ≡ u.puts ++ a → v.before ≡ p.spot.before ++ row def p.node
+      → final ≡ u.puts ++ (a ++ more) → length u.puts ≡ tokens_in p.spot.before → length a ≡ tokens_in (row def p.node)
+      → path ≡ cond counts top p.spot.path → n ≡ length (placed_from def p.spot p.node) → ended (first_begin u.puts a) v n (begun_node path u) ≡ node_in p
+  entry p u v a more path n ev eb e k m q c =
+      let ps : List Put = u.puts in
+      let front : take (tokens_in p.spot.before) final ≡ ps = ap (take (tokens_in p.spot.before)) e ∙ take_at ps (a ++ more) (tokens_in p.spot.before) (sym k) in
+      let behind : drop (tokens_in p.spot.before) final ≡ a ++ more = ap (drop (tokens_in p.spot.before)) e ∙ drop_at ps (a ++ more) (tokens_in p.spot.before) (sym k) in
       let own : own_puts def final p ≡ a = ap (take (tokens_in (row def p.node))) behind ∙ take_at a more (tokens_in (row def p.node)) (sym m) in
-      let long : tokens_in p.spot.before + tokens_in (row def p.node) ≡ length (ps ++ a) = let l = length-append ps a in omega (arith, l, n, m) in
+      let long : tokens_in p.spot.before + tokens_in (row def p.node) ≡ length (ps ++ a) = let l = length-append ps a in omega (arith, l, k, m) in
       let upto : take (tokens_in p.spot.before + tokens_in (row def p.node)) final ≡ ps ++ a =
       ap (take (tokens_in p.spot.before + tokens_in (row def p.node))) (e ∙ sym (append_assoc ps a more)) ∙ take_at (ps ++ a) more (tokens_in p.spot.before + tokens_in (row def p.node)) long in
-      parts a
-      ∙ ap (λ z. whole z (length (text_in ps) + length (first_gap a)) (length (text_in (ps ++ a))) (flat_of_puts ps a)) q
-      ∙ ap₂ (λ f o. whole (cond counts top p.spot.path) (length (text_in f) + length (first_gap o)) (length (text_in (ps ++ a))) (flat_of_puts f o)) (sym front) (sym own)
-      ∙ ap (λ u. whole (cond counts top p.spot.path) (span_in def final p).start (length (text_in u)) (flat_of_puts (take (tokens_in p.spot.before) final) (own_puts def final p))) (sym upto)
+      parts a ev
+      ∙ ap (λ z. whole z (length (text_in ps) + length (first_gap a)) (length (text_in (ps ++ a))) (flat_of_puts ps a) (length ps) (length a) (marks_of v.before) n) q
+      ∙ ap₂ (λ f o. whole (cond counts top p.spot.path) (length (text_in f) + length (first_gap o)) (length (text_in (ps ++ a))) (flat_of_puts f o) (length ps) (length a) (marks_of v.before) n) (sym front) (sym own)
+      ∙ ap (λ z. whole (cond counts top p.spot.path) (span_in def final p).start (length (text_in z)) (flat_of_puts (take (tokens_in p.spot.before) final) (own_puts def final p)) (length ps) (length a) (marks_of v.before) n) (sym upto)
+      ∙ ap₂ (λ x y. whole (cond counts top p.spot.path) (span_in def final p).start (span_in def final p).end (flat_of_puts (take (tokens_in p.spot.before) final) (own_puts def final p)) x y (marks_of v.before) n) k m
+      ∙ ap₂ (λ x y. whole (cond counts top p.spot.path) (span_in def final p).start (span_in def final p).end (flat_of_puts (take (tokens_in p.spot.before) final) (own_puts def final p)) (tokens_in p.spot.before) (tokens_in (row def p.node)) (marks_of x) y) eb c
     where
-      whole : List ℕ → ℕ → ℕ → Flat → Node
-      whole z start end flat = record { span = record { path = z; start = start; end = end }; flat = flat }
+      whole : List ℕ → ℕ → ℕ → Flat → ℕ → ℕ → Marks → ℕ → Node
+      whole z start end flat before own after count =
+          record { span = record { path = z; start = start; end = end }; flat = flat; before = before; own = own; after = after; count = count }
 
-      parts : (b : List Put) → ended (first_begin ps b) (ps ++ b) (begun_node path ps) ≡ whole path (length (text_in ps) + length (first_gap b)) (length (text_in (ps ++ b))) (flat_of_puts ps b)
-      parts [] = ap (λ k. whole path k (length (text_in (ps ++ []))) no_tokens) (let z : length (text_in ps) ≡ length (text_in ps) + 0 = omega arith in z)
-      parts (x ∷ xs) = ap (λ k. whole path k (length (text_in (ps ++ x ∷ xs))) (flat_of_puts ps (x ∷ xs))) (length-append (text_in ps) x.gap)
+      longer : (b : List Put) → v.puts ≡ u.puts ++ b → length v.puts - length u.puts ≡ length b
+      longer b h = let x = ap length h in let y = length-append u.puts b in omega (arith, x, y)
+
+      parts : (b : List Put) → v.puts ≡ u.puts ++ b → ended (first_begin u.puts b) v n (begun_node path u)
+          ≡ whole path (length (text_in u.puts) + length (first_gap b)) (length (text_in (u.puts ++ b))) (flat_of_puts u.puts b) (length u.puts) (length b) (marks_of v.before) n
+      parts [] h =
+          ap₂ (λ z o. whole path (length (text_in u.puts)) (length (text_in z)) no_tokens (length u.puts) o (marks_of v.before) n) h (longer [] h)
+          ∙ ap (λ s. whole path s (length (text_in (u.puts ++ []))) no_tokens (length u.puts) 0 (marks_of v.before) n) (let z : length (text_in u.puts) ≡ length (text_in u.puts) + 0 = omega arith in z)
+      parts (x ∷ xs) h =
+          ap₂ (λ z o. whole path (length (text_in u.puts ++ x.gap)) (length (text_in z)) (flat_from (begin_at u.puts x.gap x.text) (chars_in z)) (length u.puts) o (marks_of v.before) n) h (longer (x ∷ xs) h)
+          ∙ ap (λ s. whole path s (length (text_in (u.puts ++ x ∷ xs))) (flat_of_puts u.puts (x ∷ xs)) (length u.puts) (length (x ∷ xs)) (marks_of v.before) n) (length-append (text_in u.puts) x.gap)
 
   pub from-below : (s : Spot) (t : Fragment) → placed_from def s t ≡ record { spot = s; node = t } ∷ placed_below def s 0 t
   from-below s (hole p) = refl
@@ -106,39 +124,79 @@ module _ (def : Definition) (counts : Bool) (final : List Put) (top : List ℕ) 
   -- a node is ended
   pub closed_nodes : (own inner : Walk) (outer : Option Begin) (s : Spot) (t : Fragment) (more : List Put) → IsMet counts top (opened own) s.before s.path
       → Goes (row def t) (opened own).ink inner.ink → final ≡ inner.ink.page.puts ++ more
+      → inner.place ≡ own.place + 1 + length (placed_below def s 0 t)
       → inner.nodes ≡ (opened own).nodes ++ map node_in (placed_below def s 0 t)
-      → (closed (length own.nodes) outer inner).nodes ≡ own.nodes ++ map node_in (placed_from def s t)
-  closed_nodes own inner outer s t more m g e h =
-      let empty : Node = begun_node own.path own.ink.page.puts in
+      → (closed (length own.nodes) own.place outer inner).nodes ≡ own.nodes ++ map node_in (placed_from def s t)
+  closed_nodes own inner outer s t more m g e pl h =
+      let empty : Node = begun_node own.path own.ink.page in
       let back : List Node = map node_in (placed_below def s 0 t) in
+      let n : ℕ = inner.place - own.place in
       let whole : inner.nodes ≡ own.nodes ++ empty ∷ back = h ∙ append_assoc own.nodes (empty ∷ []) back in
-      let d : Node = begun_node inner.path inner.ink.page.puts in
+      let d : Node = begun_node inner.path inner.ink.page in
       let read : slice_index_or inner.nodes (length own.nodes) d ≡ empty = ap (λ xs. slice_index_or xs (length own.nodes) d) whole ∙ at_seam own.nodes empty back d in
-      let node : ended inner.ink.first inner.ink.page.puts (slice_index_or inner.nodes (length own.nodes) d) ≡ node_in (record { spot = s; node = t }) =
-      ap (ended inner.ink.first inner.ink.page.puts) read
-      ∙ ap₂ (λ f ps. ended f ps empty) g.first g.puts
-      ∙ entry (record { spot = s; node = t }) own.ink.page.puts g.added more own.path (e ∙ ap (λ z. z ++ more) g.puts ∙ append_assoc own.ink.page.puts g.added more) m.count g.count m.path_is in
+      let count : n ≡ length (placed_from def s t) = let l = ap length (from-below s t) in omega (arith, pl, l) in
+      let node : ended inner.ink.first inner.ink.page n (slice_index_or inner.nodes (length own.nodes) d) ≡ node_in (record { spot = s; node = t }) =
+      ap (ended inner.ink.first inner.ink.page n) read
+      ∙ ap (λ f. ended f inner.ink.page n empty) g.first
+      ∙ entry (record { spot = s; node = t }) own.ink.page inner.ink.page g.added more own.path n g.puts (g.before ∙ ap (λ z. z ++ row def t) m.before_is)
+      (e ∙ ap (λ z. z ++ more) g.puts ∙ append_assoc own.ink.page.puts g.added more) m.count g.count m.path_is count in
       ap₂ (λ xs v. slice_set xs (length own.nodes) v) whole node
       ∙ set-append_seam own.nodes empty back (node_in (record { spot = s; node = t }))
       ∙ ap (λ ps. own.nodes ++ map node_in ps) (sym (from-below s t))
 
   module _ (layout : Layout) (cols : ℕ) (flats : List Flat) where
+    -- how many nodes are written
+    pub places : (f : Fragment) (way : Way) (n : ℕ) (w : Walk) (s : Spot) → (below def layout cols flats [] counts way n w f).place ≡ w.place + length (placed_below def s n f)
+    places (hole p) way n w s = omega arith
+    places (ending l u) way n w s = omega arith
+    places (cell l x r) way n w s =
+        let own : Walk = stepped counts w n in
+        let inner : Walk = below def layout cols flats [] counts (comes (comes_flat way) w.place) 0 (opened own) x in
+        let node : Walk = with_path (closed (length w.nodes) w.place w.ink.first inner) w.path in
+        let after : Walk = with_ink node (ink_row node.ink (between def l r)) in
+        let s1 : Spot = element_spot def s n l r in
+        let s2 : Spot = rest_spot def s l x r in
+        let a = places x (comes (comes_flat way) w.place) 0 (opened own) s1 in
+        let b = places r way (n + 1) after s2 in
+        let c = ap length (from-below s1 x) in
+        let d = length-append (placed_from def s1 x) (placed_below def s2 (n + 1) r) in
+        omega (arith, a, b, c, d)
+    places (operator o) way n w s = omega arith
+    places (with_child f t) way n w s =
+        let mode : Mode = mode_at def layout cols flats [] counts way w (top_operator f) in
+        let b : Bool = is_bracketed def f t in
+        let front : Walk = below def layout cols flats [] counts (within mode) n w f in
+        let begun : Walk = sub_begun def layout cols flats [] counts mode (top_operator f) (next_number def layout cols f) b front in
+        let own : Walk = stepped counts begun (length (children_of f)) in
+        let s1 : Spot = front_spot def s f t in
+        let s2 : Spot = child_spot def s f t in
+        let x = places f (within mode) n w s1 in
+        let y = places t (comes (is_flat mode) begun.place) 0 (opened own) s2 in
+        let c = ap length (from-below s2 t) in
+        let d = length-append (placed_below def s1 n f) (placed_from def s2 t) in
+        omega (arith, x, y, c, d)
+    places (with_name f x) way n w s = places f (within (mode_at def layout cols flats [] counts way w (top_operator f))) n w (leaf_spot def s f x)
+    places (with_number f x) way n w s = places f (within (mode_at def layout cols flats [] counts way w (top_operator f))) n w (leaf_spot def s f (decimal x))
+    places (with_text f x) way n w s = places f (within (mode_at def layout cols flats [] counts way w (top_operator f))) n w (leaf_spot def s f (quoted x))
+    places anything way n w s = omega arith
+    places (observed f) way n w s = places f way n w s
+
     nothing_listed : (w : Walk) → w.nodes ≡ w.nodes ++ []
     nothing_listed w = sym (append-nil w.nodes)
 
     -- a name or literal is no node
     leaf_nodes : (f : Fragment) (t : List ℕ) (way : Way) (n : ℕ) (w : Walk) (s : Spot) (more : List Put) → IsMet counts top w s.before s.path
-        → final ≡ (words_after def layout cols flats counts (mode_at def layout cols flats counts way w (top_operator f)) f
-        (leaf_put def layout cols flats counts (mode_at def layout cols flats counts way w (top_operator f)) (top_operator f) (next_number def layout cols f) t
-        (below def layout cols flats counts (within (mode_at def layout cols flats counts way w (top_operator f))) n w f))).ink.page.puts ++ more
-        → ((later : List Put) → final ≡ (below def layout cols flats counts (within (mode_at def layout cols flats counts way w (top_operator f))) n w f).ink.page.puts ++ later
-        → (below def layout cols flats counts (within (mode_at def layout cols flats counts way w (top_operator f))) n w f).nodes ≡ w.nodes ++ map node_in (placed_below def (leaf_spot def s f t) n f))
-        → (below def layout cols flats counts (within (mode_at def layout cols flats counts way w (top_operator f))) n w f).nodes ≡ w.nodes ++ map node_in (placed_below def (leaf_spot def s f t) n f)
+        → final ≡ (words_after def layout cols flats [] counts (mode_at def layout cols flats [] counts way w (top_operator f)) f
+        (leaf_put def layout cols flats [] counts (mode_at def layout cols flats [] counts way w (top_operator f)) (top_operator f) (next_number def layout cols f) t
+        (below def layout cols flats [] counts (within (mode_at def layout cols flats [] counts way w (top_operator f))) n w f))).ink.page.puts ++ more
+        → ((later : List Put) → final ≡ (below def layout cols flats [] counts (within (mode_at def layout cols flats [] counts way w (top_operator f))) n w f).ink.page.puts ++ later
+        → (below def layout cols flats [] counts (within (mode_at def layout cols flats [] counts way w (top_operator f))) n w f).nodes ≡ w.nodes ++ map node_in (placed_below def (leaf_spot def s f t) n f))
+        → (below def layout cols flats [] counts (within (mode_at def layout cols flats [] counts way w (top_operator f))) n w f).nodes ≡ w.nodes ++ map node_in (placed_below def (leaf_spot def s f t) n f)
     leaf_nodes f t way n w s more m e h =
-        let mode : Mode = mode_at def layout cols flats counts way w (top_operator f) in
-        let front : Walk = below def layout cols flats counts (within mode) n w f in
-        let put : Walk = leaf_put def layout cols flats counts mode (top_operator f) (next_number def layout cols f) t front in
-        let whole : Walk = words_after def layout cols flats counts mode f put in
+        let mode : Mode = mode_at def layout cols flats [] counts way w (top_operator f) in
+        let front : Walk = below def layout cols flats [] counts (within mode) n w f in
+        let put : Walk = leaf_put def layout cols flats [] counts mode (top_operator f) (next_number def layout cols f) t front in
+        let whole : Walk = words_after def layout cols flats [] counts mode f put in
         let q : Ink = ink_at layout mode (top_operator f) (next_number def layout cols f) front.ink in
         let gt : Goes (token t ∷ []) front.ink put.ink =
         goes_then [] (token t ∷ []) front.ink q put.ink (goes_at layout mode (top_operator f) (next_number def layout cols f) front.ink) (goes_token q t) in
@@ -149,19 +207,19 @@ module _ (def : Definition) (counts : Bool) (final : List Put) (top : List ℕ) 
 
     -- the nodes below the one that is walked over, which is at the spot
     pub nodes_are : (f : Fragment) (way : Way) (n : ℕ) (w : Walk) (s : Spot) (more : List Put) → IsMet counts top w s.before s.path
-        → final ≡ (below def layout cols flats counts way n w f).ink.page.puts ++ more
-        → (below def layout cols flats counts way n w f).nodes ≡ w.nodes ++ map node_in (placed_below def s n f)
+        → final ≡ (below def layout cols flats [] counts way n w f).ink.page.puts ++ more
+        → (below def layout cols flats [] counts way n w f).nodes ≡ w.nodes ++ map node_in (placed_below def s n f)
     nodes_are (hole p) way n w s more m e = nothing_listed w
     nodes_are (ending l u) way n w s more m e = nothing_listed w
     nodes_are (cell l x r) way n w s more m e =
         let own : Walk = stepped counts w n in
-        let inner : Walk = below def layout cols flats counts (comes (comes_flat way) (length w.nodes)) 0 (opened own) x in
-        let node : Walk = with_path (closed (length w.nodes) w.ink.first inner) w.path in
+        let inner : Walk = below def layout cols flats [] counts (comes (comes_flat way) w.place) 0 (opened own) x in
+        let node : Walk = with_path (closed (length w.nodes) w.place w.ink.first inner) w.path in
         let after : Walk = with_ink node (ink_row node.ink (between def l r)) in
-        let whole : Walk = below def layout cols flats counts way (n + 1) after r in
+        let whole : Walk = below def layout cols flats [] counts way (n + 1) after r in
         let s1 : Spot = element_spot def s n l r in
         let s2 : Spot = rest_spot def s l x r in
-        let g1 : Goes (row def x) (opened own).ink inner.ink = goes def layout cols flats counts x (comes (comes_flat way) (length w.nodes)) 0 (opened own) in
+        let g1 : Goes (row def x) (opened own).ink inner.ink = goes def layout cols flats counts x (comes (comes_flat way) w.place) 0 (opened own) in
         let gn : Goes (row def x) w.ink node.ink = goes_closed (row def x) w.ink inner.ink g1 in
         let gb : Goes (between def l r) node.ink after.ink = goes_row (between def l r) node.ink in
         let gr : Goes (row def r) after.ink whole.ink = goes def layout cols flats counts r way (n + 1) after in
@@ -170,8 +228,8 @@ module _ (def : Definition) (counts : Bool) (final : List Put) (top : List ℕ) 
         ∙ ap (λ z. z ++ (gr.added ++ more)) gb.puts ∙ append_assoc inner.ink.page.puts gb.added (gr.added ++ more) in
         let m1 : IsMet counts top (opened own) s1.before s1.path = met_step counts top w s.before s.path n m in
         let h1 : node.nodes ≡ w.nodes ++ map node_in (placed_from def s1 x) =
-        closed_nodes own inner w.ink.first s1 x (gb.added ++ (gr.added ++ more)) m1 g1 left
-        (nodes_are x (comes (comes_flat way) (length w.nodes)) 0 (opened own) s1 (gb.added ++ (gr.added ++ more)) m1 left) in
+        closed_nodes own inner w.ink.first s1 x (gb.added ++ (gr.added ++ more)) m1 g1 left (places x (comes (comes_flat way) w.place) 0 (opened own) s1)
+        (nodes_are x (comes (comes_flat way) w.place) 0 (opened own) s1 (gb.added ++ (gr.added ++ more)) m1 left) in
         let m2 : IsMet counts top after s2.before s2.path =
         met_goes counts top (row def x ++ between def l r) w after s.before s.path m (goes_then (row def x) (between def l r) w.ink node.ink after.ink gn gb) refl in
         nodes_are r way (n + 1) after s2 more m2 e
@@ -180,24 +238,24 @@ module _ (def : Definition) (counts : Bool) (final : List Put) (top : List ℕ) 
         ∙ ap (λ z. w.nodes ++ z) (sym (map-append node_in (placed_from def s1 x) (placed_below def s2 (n + 1) r)))
     nodes_are (operator o) way n w s more m e = nothing_listed w
     nodes_are (with_child f t) way n w s more m e =
-        let mode : Mode = mode_at def layout cols flats counts way w (top_operator f) in
+        let mode : Mode = mode_at def layout cols flats [] counts way w (top_operator f) in
         let b : Bool = is_bracketed def f t in
         let k : ℕ = length (children_of f) in
-        let front : Walk = below def layout cols flats counts (within mode) n w f in
-        let begun : Walk = sub_begun def layout cols flats counts mode (top_operator f) (next_number def layout cols f) b front in
-        let asked : Ink = ink_child layout mode (top_operator f) (next_number def layout cols f) b (flat_in flats (length front.nodes)) front.ink in
+        let front : Walk = below def layout cols flats [] counts (within mode) n w f in
+        let begun : Walk = sub_begun def layout cols flats [] counts mode (top_operator f) (next_number def layout cols f) b front in
+        let asked : Ink = ink_child layout mode (top_operator f) (next_number def layout cols f) b (flat_in flats front.place) front.ink in
         let own : Walk = stepped counts begun k in
-        let inner : Walk = below def layout cols flats counts (comes (is_flat mode) (length begun.nodes)) 0 (opened own) t in
-        let node : Walk = with_path (closed (length begun.nodes) begun.ink.first inner) begun.path in
-        let done : Walk = sub_ended def layout cols flats counts b node in
-        let whole : Walk = words_after def layout cols flats counts mode f done in
+        let inner : Walk = below def layout cols flats [] counts (comes (is_flat mode) begun.place) 0 (opened own) t in
+        let node : Walk = with_path (closed (length begun.nodes) begun.place begun.ink.first inner) begun.path in
+        let done : Walk = sub_ended def layout cols flats [] counts b node in
+        let whole : Walk = words_after def layout cols flats [] counts mode f done in
         let s1 : Spot = front_spot def s f t in
         let s2 : Spot = child_spot def s f t in
         let gf : Goes (row def f) w.ink front.ink = goes def layout cols flats counts f (within mode) n w in
         let go : Goes (opening b) front.ink begun.ink =
-        goes_then [] (opening b) front.ink asked begun.ink (goes_child layout mode (top_operator f) (next_number def layout cols f) b (flat_in flats (length front.nodes)) front.ink)
+        goes_then [] (opening b) front.ink asked begun.ink (goes_child layout mode (top_operator f) (next_number def layout cols f) b (flat_in flats front.place) front.ink)
         (goes_row (opening b) asked) in
-        let g1 : Goes (row def t) (opened own).ink inner.ink = goes def layout cols flats counts t (comes (is_flat mode) (length begun.nodes)) 0 (opened own) in
+        let g1 : Goes (row def t) (opened own).ink inner.ink = goes def layout cols flats counts t (comes (is_flat mode) begun.place) 0 (opened own) in
         let gc : Goes (closing b) node.ink done.ink = goes_row (closing b) node.ink in
         let gw : Goes (words_behind def f) done.ink whole.ink = goes_words layout mode (top_operator f) (next_number def layout cols f + 1) (behind_first (left def f)) done.ink in
         let left_ : final ≡ inner.ink.page.puts ++ (gc.added ++ (gw.added ++ more)) =
@@ -209,19 +267,19 @@ module _ (def : Definition) (counts : Bool) (final : List Put) (top : List ℕ) 
         let h0 : front.nodes ≡ w.nodes ++ map node_in (placed_below def s1 n f) =
         nodes_are f (within mode) n w s1 (go.added ++ (g1.added ++ (gc.added ++ (gw.added ++ more)))) m before in
         let mb : IsMet counts top begun s2.before s.path =
-        met_goes counts top (row def f ++ opening b) w begun s.before s.path m (goes_then (row def f) (opening b) w.ink front.ink begun.ink gf go) (below-path def layout cols flats counts (within mode) n w f) in
+        met_goes counts top (row def f ++ opening b) w begun s.before s.path m (goes_then (row def f) (opening b) w.ink front.ink begun.ink gf go) (below-path def layout cols flats [] counts (within mode) n w f) in
         let m1 : IsMet counts top (opened own) s2.before s2.path = met_step counts top begun s2.before s.path k mb in
         let h1 : node.nodes ≡ begun.nodes ++ map node_in (placed_from def s2 t) =
-        closed_nodes own inner begun.ink.first s2 t (gc.added ++ (gw.added ++ more)) m1 g1 left_
-        (nodes_are t (comes (is_flat mode) (length begun.nodes)) 0 (opened own) s2 (gc.added ++ (gw.added ++ more)) m1 left_) in
+        closed_nodes own inner begun.ink.first s2 t (gc.added ++ (gw.added ++ more)) m1 g1 left_ (places t (comes (is_flat mode) begun.place) 0 (opened own) s2)
+        (nodes_are t (comes (is_flat mode) begun.place) 0 (opened own) s2 (gc.added ++ (gw.added ++ more)) m1 left_) in
         h1 ∙ ap (λ z. z ++ map node_in (placed_from def s2 t)) h0
         ∙ append_assoc w.nodes (map node_in (placed_below def s1 n f)) (map node_in (placed_from def s2 t))
         ∙ ap (λ z. w.nodes ++ z) (sym (map-append node_in (placed_below def s1 n f) (placed_from def s2 t)))
     nodes_are (with_name f x) way n w s more m e =
-        leaf_nodes f x way n w s more m e (λ later h. nodes_are f (within (mode_at def layout cols flats counts way w (top_operator f))) n w (leaf_spot def s f x) later m h)
+        leaf_nodes f x way n w s more m e (λ later h. nodes_are f (within (mode_at def layout cols flats [] counts way w (top_operator f))) n w (leaf_spot def s f x) later m h)
     nodes_are (with_number f x) way n w s more m e =
-        leaf_nodes f (decimal x) way n w s more m e (λ later h. nodes_are f (within (mode_at def layout cols flats counts way w (top_operator f))) n w (leaf_spot def s f (decimal x)) later m h)
+        leaf_nodes f (decimal x) way n w s more m e (λ later h. nodes_are f (within (mode_at def layout cols flats [] counts way w (top_operator f))) n w (leaf_spot def s f (decimal x)) later m h)
     nodes_are (with_text f x) way n w s more m e =
-        leaf_nodes f (quoted x) way n w s more m e (λ later h. nodes_are f (within (mode_at def layout cols flats counts way w (top_operator f))) n w (leaf_spot def s f (quoted x)) later m h)
+        leaf_nodes f (quoted x) way n w s more m e (λ later h. nodes_are f (within (mode_at def layout cols flats [] counts way w (top_operator f))) n w (leaf_spot def s f (quoted x)) later m h)
     nodes_are anything way n w s more m e = nothing_listed w
     nodes_are (observed f) way n w s more m e = nodes_are f way n w s more m e

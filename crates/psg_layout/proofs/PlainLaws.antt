@@ -72,7 +72,7 @@ pub record IsPlainPage (p : Page) : Type 0 where
   pub broken : p.broken ≡ None
   pub puts : p.puts ≡ plain_puts [] p.before
 
-plain_gap : (l : Option ℕ) (before : Pieces) (cs : List ℕ) → gap_by l None (gap_after l before cs) ≡ gap_after l before cs
+pub plain_gap : (l : Option ℕ) (before : Pieces) (cs : List ℕ) → gap_by l None (gap_after l before cs) ≡ gap_after l before cs
 plain_gap None before cs = refl
 plain_gap (Some c) before cs = refl
 

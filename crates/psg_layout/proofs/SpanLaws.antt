@@ -34,7 +34,7 @@ spaced_back c (token t ∷ a) b (p ∷ puts) h = spaced_back (Some (last_char 0 
 
 -- ---- the bytes of tokens
 
-split_at : (n : ℕ) (puts : List Put) → puts ≡ take n puts ++ drop n puts
+pub split_at : (n : ℕ) (puts : List Put) → puts ≡ take n puts ++ drop n puts
 split_at zero puts = refl
 split_at (suc n) [] = refl
 split_at (suc n) (p ∷ puts) = ap (λ z. p ∷ z) (split_at n puts)
@@ -43,14 +43,14 @@ take_none : (k : ℕ) → take {A = Put} k [] ≡ []
 take_none zero = refl
 take_none (suc k) = refl
 
-take_both : (n m : ℕ) (puts : List Put) → take (n + m) puts ≡ take n puts ++ take m (drop n puts)
+pub take_both : (n m : ℕ) (puts : List Put) → take (n + m) puts ≡ take n puts ++ take m (drop n puts)
 take_both zero m puts = let e : 0 + m ≡ m = omega arith in ap (λ k. take k puts) e
 take_both (suc n) m [] = take_none (suc n + m) ∙ sym (take_none m)
 take_both (suc n) m (p ∷ puts) =
     let e : suc n + m ≡ suc (n + m) = omega arith in
     ap (λ k. take k (p ∷ puts)) e ∙ ap (λ z. p ∷ z) (take_both n m puts)
 
-own_parts : (puts : List Put) → text_in puts ≡ first_gap puts ++ own_text puts
+pub own_parts : (puts : List Put) → text_in puts ≡ first_gap puts ++ own_text puts
 own_parts [] = refl
 own_parts (p ∷ puts) = refl
 
@@ -63,7 +63,7 @@ between_places a b c text m n e f g =
     ∙ ap (take (length b)) (drop-append_seam a (b ++ c))
     ∙ take-append_seam b c
 
-own_bytes : (n m : ℕ) (puts : List Put)
+pub own_bytes : (n m : ℕ) (puts : List Put)
     → part_of (length (text_in (take n puts)) + length (first_gap (take m (drop n puts)))) (length (text_in (take (n + m) puts))) (text_in puts)
     ≡ own_text (take m (drop n puts))
 own_bytes n m puts =

@@ -11,13 +11,15 @@ ghost use Rattle.psg_unparse.specs.Spaced.{AreSpaced};
 ghost use Rattle.psg_layout.specs.Arranged.{arranged_in, arranged_puts};
 ghost use Rattle.psg_layout.specs.Laws.{ReadsBackArranged};
 
+use crate::deciding::Plan;
 use crate::layout::Layout;
 use crate::nodes::spans_of;
 use crate::rules::Rules;
-use crate::walk::{Plan, write_whole};
+use crate::sheet::Sheet;
+use crate::walk::write_whole;
 use psg_grammar::Definition;
 use psg_terms::Txt;
-use psg_tree::Tree;
+use psg_tree::{Tree, nodes};
 use psg_unparse::Printed;
 use std::alloc::{AllocError, Global};
 
@@ -31,8 +33,9 @@ use std::alloc::{AllocError, Global};
 /// reads back as the tree (`back`). A span has the bytes from the first token of a node to the end of its last one.
 ///
 /// It returns out of memory also where 32 bits do not count the children of a node, and where 64 bits do not count the
-/// columns. It walks over the tree twice, the first time to see how wide its nodes are, and takes time linear in both
-/// texts and in the paths of the nodes. It calls itself once for each level of the tree.
+/// columns. It walks over the tree twice: first it writes the plain text and keeps how wide its nodes are, then it
+/// writes the arranged text, in which a group that fits is copied from the plain one. It takes time linear in both
+/// texts and in the paths of the nodes, and calls itself once for each level of the tree.
 pub fn arrange(
     alloc: Global,
     definition: &Definition,
@@ -50,23 +53,28 @@ pub fn arrange(
         → ReadsBackArranged definition.now layout.now cols tree.now) }
 {
     let rules = Rules::of(alloc, layout)?;
-    let counting = Plan {
+    let reading = Plan {
         definition,
         rules: &rules,
         plain: &[],
+        text: "",
+        tokens: &[],
         cols,
-        counts: true,
+        counts: false,
     };
-    let plain = write_whole(alloc, &counting, true, tree)?;
+    let plain = write_whole(alloc, &reading, true, nodes(tree) as usize, tree)?;
     let plan = Plan {
         definition,
         rules: &rules,
         plain: plain.nodes.as_slice(),
+        text: plain.sheet.out.as_str(),
+        tokens: plain.sheet.tokens.as_slice(),
         cols,
-        counts: false,
+        counts: true,
     };
-    let made = write_whole(alloc, &plan, false, tree)?;
-    let text = Txt::of(alloc, made.sheet.out)?;
-    let spans = spans_of(alloc, made.nodes)?;
+    let made = write_whole(alloc, &plan, false, 0, tree)?;
+    let Sheet { out, tokens, .. } = made.sheet;
+    let spans = spans_of(alloc, plain.nodes, tokens.as_slice(), out.len())?;
+    let text = Txt::of(alloc, out)?;
     Ok(Printed { text, spans })
 }

@@ -1,6 +1,5 @@
 //! What is printed between two tokens.
-ghost use Rattle.std.specs.Prelude.{◌≡◌, ◌+◌, IfOk, length};
-ghost use Rattle.psg_layout.specs.Sheets.{gap_bytes};
+ghost use Rattle.std.specs.Prelude.{◌≡◌, ◌+◌, IfOk};
 
 use psg_terms::uncountable;
 use std::alloc::AllocError;
@@ -12,19 +11,6 @@ pub(crate) struct Gap {
     pub(crate) feed: bool,
     /// How many spaces there are, after the line feed if there is one.
     pub(crate) spaces: usize,
-}
-
-impl Gap {
-    /// Returns how many bytes the gap has.
-    pub(crate) fn bytes(self) -> Result<usize, AllocError>
-        ensures { IfOk result (λ count. count ≡ length (gap_bytes self)) }
-    {
-        if self.feed {
-            let count = sum(self.spaces, 1)?;
-            return Ok(count);
-        }
-        Ok(self.spaces)
-    }
 }
 
 /// Returns the sum. It fails where 64 bits do not hold it.

@@ -10,6 +10,7 @@
 #![tactic(auto)]
 
 pub mod arranging;
+mod deciding;
 mod gap;
 pub mod laws;
 pub mod layout;

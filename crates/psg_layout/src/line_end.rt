@@ -1,8 +1,8 @@
 //! The end of a text: its line feeds, and its last line.
-ghost use Rattle.std.specs.Prelude.{◌≡◌, ◌∷◌, [], OnOk, ℕ, List, chars, replicate, true};
+ghost use Rattle.std.specs.Prelude.{◌≡◌, ◌∷◌, [], OnOk, ℕ, List, chars, replicate, false, true};
 ghost use Rattle.std.specs.Int.{is_in_range};
 ghost use Rattle.std.specs.List.{list_all};
-ghost use Rattle.psg_layout.specs.Pages.{last_line, spaces_before, width_of};
+ghost use Rattle.psg_layout.specs.Pages.{columns, has_feed, last_line, spaces_before, width_of};
 ghost use Rattle.psg_layout.specs.Sheets.{gap_bytes, IsEnd, PutsChars};
 
 use crate::gap::{Gap, sum};
@@ -134,6 +134,17 @@ impl LineEnd {
         }
         self.front = Some(self.spaces());
         self.columns = sum(self.columns, text.len())?;
+        Ok(())
+    }
+
+    /// Puts a text of so many columns at the end, which has no line feed and begins with a character other than the
+    /// space.
+    pub(crate) fn put_flat(&mut self, width: usize) -> Result<(), AllocError>
+        ensures { OnOk result ((c : ℕ) (cs : List ℕ) → has_feed (c ∷ cs) ≡ false → (c ≡ 32 → ⊥)
+            → columns (c ∷ cs) ≡ width → PutsChars (c ∷ cs) self.old self.new) }
+    {
+        self.front = Some(self.spaces());
+        self.columns = sum(self.columns, width)?;
         Ok(())
     }
 

@@ -13,7 +13,7 @@ use std::alloc::AllocError;
 
 /// The last character of the last token of a row, how many levels are open at its end, and which marks follow that
 /// token.
-#[derive(Drop)]
+#[derive(Clone, Copy)]
 pub(crate) struct Marks {
     pub(crate) last: Option<char>,
     pub(crate) levels: usize,

@@ -1,11 +1,12 @@
 //! Writing tokens with plain gaps and with breaks.
-ghost use Rattle.std.specs.Prelude.{◌≡◌, ◌+◌, ◌++◌, ◌∷◌, [], IfNone, IfOk, IfSome, OnOk, true, replicate, length};
+ghost use Rattle.std.specs.Prelude.{◌≡◌, ◌++◌, ◌∷◌, [], IfNone, IfOk, IfSome, OnOk, length, map, replicate};
 ghost use Rattle.std.specs.Prelude.{chars, decimal, slice_get, string_bytes};
 ghost use Rattle.psg_tree.specs.AbstractText as text;
 ghost use Rattle.psg_unparse.specs.Layout.{last_char};
 ghost use Rattle.psg_layout.specs.Pages.{gap_by};
-ghost use Rattle.psg_layout.specs.Sheets.{begun, gap_bytes, ink_ask, ink_mark, ink_token, Inks, IsInk};
-ghost use Rattle.psg_layout.specs.Sheets.{new_ink, PutsChars};
+ghost use Rattle.psg_layout.specs.Sheets as sheets;
+ghost use Rattle.psg_layout.specs.Sheets.{Copy, Ink, Inks, IsInk, IsOwn, IsStop, PutsChars, begun, gap_bytes, ink_ask};
+ghost use Rattle.psg_layout.specs.Sheets.{ink_copy, ink_mark, ink_token, new_ink};
 
 use crate::gap::{Gap, sum};
 use crate::line_end::LineEnd;
@@ -15,25 +16,53 @@ use psg_grammar::Item;
 use psg_tree::write_quoted;
 use std::alloc::{AllocError, Global};
 
-/// Where a token begins: the number of its first byte, the gap in front of it, and the line feeds and the columns in
-/// front of it.
+/// Where a token begins: the number of its first byte, the gap in front of it, the line feeds and the columns in front
+/// of it, and its first character.
 #[derive(Clone, Copy)]
 pub(crate) struct Begin {
     pub(crate) byte: usize,
     pub(crate) gap: Gap,
     pub(crate) feeds: usize,
     pub(crate) columns: usize,
+    pub(crate) head: Option<char>,
 }
 
-/// What is written of a text. The text is kept, or only counted.
+/// The bytes of a token: the number of the first one, and that of the one after the last one.
+#[derive(Clone, Copy)]
+pub(crate) struct Extent {
+    pub(crate) begin: usize,
+    pub(crate) end: usize,
+}
+
+/// The tokens of a node as they are written elsewhere, in one line: the plain gap in front of them, their columns, the
+/// byte at which they begin there, their text and their bytes there, and the marks after the node.
+#[derive(Clone, Copy)]
+pub(crate) struct Own<'a> {
+    pub(crate) lead: Gap,
+    pub(crate) width: usize,
+    pub(crate) start: usize,
+    pub(crate) text: &'a str,
+    pub(crate) tokens: &'a [Extent],
+    pub(crate) after: Marks,
+    /// How many nodes there are in the node, with itself.
+    pub(crate) count: usize,
+}
+
+/// The end of what is written: the bytes and the tokens in front of it, its line, and the marks.
+#[derive(Clone, Copy)]
+pub(crate) struct Stop {
+    pub(crate) bytes: usize,
+    pub(crate) tokens: usize,
+    pub(crate) line: LineEnd,
+    pub(crate) marks: Marks,
+}
+
+/// What is written of a text.
 #[derive(Drop)]
 pub(crate) struct Sheet {
-    /// The text, if it is kept.
     pub(crate) out: String,
-    /// Whether the text is kept.
-    pub(crate) keeps: bool,
-    /// How many bytes the text has.
-    pub(crate) bytes: usize,
+    /// The bytes of the tokens, in order.
+    pub(crate) tokens: Vec<Extent>,
     pub(crate) line: LineEnd,
     pub(crate) marks: Marks,
     /// How many spaces are to be in front of the next token, on a line of its own.
@@ -42,15 +71,23 @@ pub(crate) struct Sheet {
     pub(crate) first: Option<Begin>,
 }
 
+/// Returns the bytes of a token that is moved as from the one byte to the other one.
+fn moved(token: Extent, from: usize, to: usize) -> Result<Extent, AllocError>
+    ensures { IfOk result (λ made. made ≡ sheets.moved from to token) }
+{
+    let begin = sum(token.begin.saturating_sub(from), to)?;
+    let end = sum(token.end.saturating_sub(from), to)?;
+    Ok(Extent { begin, end })
+}
+
 impl Sheet {
-    /// Makes a sheet on which nothing is written. It keeps its text, or counts it.
-    pub(crate) fn new(alloc: Global, keeps: bool) -> Sheet
-        ensures { IsInk result (new_ink keeps) }
+    /// Makes a sheet on which nothing is written.
+    pub(crate) fn new(alloc: Global) -> Sheet
+        ensures { IsInk result new_ink }
     {
         Sheet {
             out: String::new(alloc),
-            keeps,
-            bytes: 0,
+            tokens: Vec::new(alloc),
             line: LineEnd::new(),
             marks: Marks::new(),
             broken: None,
@@ -84,71 +121,30 @@ impl Sheet {
         Ok(line)
     }
 
-    /// Puts a gap at the end of the text, if that is kept.
-    fn keep_gap(&mut self, gap: Gap) -> Result<(), AllocError>
-        ensures bytes { OnOk result (self.old.keeps ≡ true
-            → string_bytes self.new.out ≡ string_bytes self.old.out ++ gap_bytes gap) }
-        ensures kept { self.new ≡ record self.old { out = self.new.out } }
-    {
-        if self.keeps {
-            push_gap(&mut self.out, gap)?;
-        }
-        Ok(())
-    }
-
-    /// Puts the text of a token at the end of the text, if that is kept.
-    fn keep_text(&mut self, text: &str) -> Result<(), AllocError>
-        ensures bytes { OnOk result (self.old.keeps ≡ true
-            → string_bytes self.new.out ≡ string_bytes self.old.out ++ text.now) }
-        ensures kept { self.new ≡ record self.old { out = self.new.out } }
-    {
-        if self.keeps {
-            self.out.push_str(text)?;
-        }
-        Ok(())
-    }
-
     /// Writes a gap.
     fn write_gap(&mut self, gap: Gap) -> Result<(), AllocError>
-        ensures bytes { OnOk result (self.old.keeps ≡ true
-            → string_bytes self.new.out ≡ string_bytes self.old.out ++ gap_bytes gap) }
-        ensures count { OnOk result (self.new.bytes ≡ self.old.bytes + length (gap_bytes gap)) }
+        ensures bytes { OnOk result (string_bytes self.new.out ≡ string_bytes self.old.out ++ gap_bytes gap) }
         ensures line { OnOk result (PutsChars (gap_bytes gap) self.old.line self.new.line) }
-        ensures kept { self.new ≡ record self.old { out = self.new.out; bytes = self.new.bytes; line = self.new.line } }
+        ensures kept { self.new ≡ record self.old { out = self.new.out; line = self.new.line } }
     {
-        self.keep_gap(gap)?;
-        let count = gap.bytes()?;
-        self.bytes = sum(self.bytes, count)?;
+        push_gap(&mut self.out, gap)?;
         self.line.put_gap(gap)?;
         Ok(())
     }
 
-    /// Writes the text of a token.
-    fn write_text(&mut self, text: &str) -> Result<(), AllocError>
-        ensures bytes { OnOk result (self.old.keeps ≡ true
-            → string_bytes self.new.out ≡ string_bytes self.old.out ++ text.now) }
-        ensures count { OnOk result (self.new.bytes ≡ self.old.bytes + length text.now) }
-        ensures line { OnOk result (PutsChars (chars text.now) self.old.line self.new.line) }
-        ensures kept { self.new ≡ record self.old { out = self.new.out; bytes = self.new.bytes; line = self.new.line } }
-    {
-        self.keep_text(text)?;
-        self.bytes = sum(self.bytes, text.len())?;
-        self.line.put_str(text)?;
-        Ok(())
-    }
-
-    /// Keeps where a token begins that follows this gap, if it is the first.
-    fn begin(&mut self, gap: Gap)
-        ensures { self.new ≡ begun gap self.old }
+    /// Keeps where a token begins that follows this gap and begins with this character, if it is the first.
+    fn begin(&mut self, gap: Gap, head: Option<char>)
+        ensures { self.new ≡ begun gap head self.old }
     {
         match self.first {
             Some(_) => {}
             None => {
                 self.first = Some(Begin {
-                    byte: self.bytes,
+                    byte: self.out.len(),
                     gap,
                     feeds: self.line.feeds,
                     columns: self.line.columns,
+                    head,
                 });
             }
         }
@@ -158,14 +154,62 @@ impl Sheet {
     pub(crate) fn put_token(&mut self, text: &str) -> Result<(), AllocError>
         ensures { OnOk result (Inks (λ k. ink_token k text.now) self.old self.new) }
     {
-        let plain = self.marks.gap(first_char(text))?;
+        let head = first_char(text);
+        let plain = self.marks.gap(head)?;
         let gap = self.broken_gap(plain);
         self.write_gap(gap)?;
-        self.begin(gap);
-        self.write_text(text)?;
+        self.begin(gap, head);
+        let begin = self.out.len();
+        self.out.push_str(text)?;
+        self.tokens.push(Extent {
+            begin,
+            end: self.out.len(),
+        })?;
+        self.line.put_str(text)?;
         self.marks.end(last_char(text));
         self.broken = None;
         Ok(())
+    }
+
+    /// Lists tokens that are listed elsewhere, moved as from the byte to the end of the text.
+    fn list_moved(&mut self, tokens: &[Extent], from: usize) -> Result<(), AllocError>
+        ensures tokens { OnOk result (self.new.tokens.items
+            ≡ self.old.tokens.items ++ map (sheets.moved from (length (string_bytes self.old.out))) tokens.now) }
+        ensures kept { self.new ≡ record self.old { tokens = self.new.tokens } }
+    {
+        let to = self.out.len();
+        for token in tokens {
+            let token = moved(*token, from, to)?;
+            self.tokens.push(token)?;
+        }
+        Ok(())
+    }
+
+    /// Writes the tokens of a node that are written elsewhere in one line.
+    pub(crate) fn copy(&mut self, own: Own<'_>) -> Result<(), AllocError>
+        ensures { OnOk result ((c : Copy) → IsOwn own.entry c
+            → Inks (λ k. ink_copy (gap_bytes own.entry.lead) c k) self.old self.new) }
+    {
+        let gap = self.broken_gap(own.lead);
+        self.write_gap(gap)?;
+        self.list_moved(own.tokens, own.start)?;
+        self.out.push_str(own.text)?;
+        self.line.put_flat(own.width)?;
+        self.marks = own.after;
+        self.broken = None;
+        Ok(())
+    }
+
+    /// Returns the end of what is written.
+    pub(crate) fn stop(&self) -> Stop
+        ensures { (k : Ink) → IsInk self.now k → IsStop result k.page }
+    {
+        Stop {
+            bytes: self.out.len(),
+            tokens: self.tokens.len(),
+            line: self.line,
+            marks: self.marks,
+        }
     }
 
     /// Puts a mark. Any other item is passed over.

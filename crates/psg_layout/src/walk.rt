@@ -1,5 +1,5 @@
 //! The walk over a tree that arranges it.
-ghost use Rattle.std.specs.Prelude.{◌≡◌, ◌+◌, ◌&&◌, not, [], ◌∷◌, Some, IfOk, OnOk, List, ℕ};
+ghost use Rattle.std.specs.Prelude.{◌≡◌, ◌+◌, [], ◌∷◌, Some, IfOk, OnOk, ℕ};
 ghost use Rattle.psg_grammar.specs.Fragments.{Fragment, operator as plain_operator};
 ghost use Rattle.psg_grammar.specs.Lookups.{operator_at};
 ghost use Rattle.psg_grammar.specs.Sound.{IsSound};
@@ -7,39 +7,19 @@ ghost use Rattle.psg_tree.specs.Shapes.{list_of, with_parts};
 ghost use Rattle.psg_tree.specs.declared.tree.Part.TheVariants.{Sub};
 ghost use Rattle.psg_unparse.specs.Walking as plain_walking;
 ghost use Rattle.psg_unparse.specs.Walking.{count_of};
-ghost use Rattle.psg_layout.specs.declared.layout.Layout.{Layout};
 ghost use Rattle.psg_layout.specs.Arranged as arranged;
-ghost use Rattle.psg_layout.specs.Arranged.{is_group};
-ghost use Rattle.psg_layout.specs.Looked.{AreRulesOf};
-ghost use Rattle.psg_layout.specs.Pages.{last_line};
-ghost use Rattle.psg_layout.specs.Sheets.{Ink, IsEnd, IsInk};
-ghost use Rattle.psg_layout.specs.Walking.{IsWalk, Walks, below_by, child_by, comes, decided_by, fits_in, flat_in};
-ghost use Rattle.psg_layout.specs.Walking.{flats_by, new_walk, node_by, part_by, within};
+ghost use Rattle.psg_layout.specs.Walking.{IsKnown, IsWalk, Known, Walks, below_by, child_by, comes, met_by, new_walk};
+ghost use Rattle.psg_layout.specs.Walking.{node_by, part_by, within};
 
-use crate::gap::sum;
-use crate::line_end::LineEnd;
-use crate::nodes::{Arranger, Flat, Node, flat_at};
-use crate::rules::Rules;
-use crate::sheet::Sheet;
+use crate::deciding::{Plan, copy_at, decide};
+use crate::nodes::{Arranger, flat_at};
 use crate::writing::{
     Mode, after, ask_at, ask_child, close_bracket, open_bracket, write_between, write_ending,
     write_words,
 };
-use psg_grammar::Definition;
-use psg_tree::{Part, Shape, Tree, nodes, phylum_name};
+use psg_tree::{Part, Shape, Tree, phylum_name};
 use psg_unparse::nodes::{behind_first, is_below, items_of, level_wanted};
 use std::alloc::{AllocError, Global};
-
-/// What a tree is arranged by: its language, the layout, the nodes of its plain text, and the columns.
-#[derive(Clone, Copy)]
-pub(crate) struct Plan<'a> {
-    pub(crate) definition: &'a Definition,
-    pub(crate) rules: &'a Rules,
-    pub(crate) plain: &'a [Node],
-    pub(crate) cols: u32,
-    /// Whether the text is only counted, and the nodes are listed without their paths.
-    pub(crate) counts: bool,
-}
 
 /// The next part of an operator: the number of its item, the least level of a tree there, and the number of its child
 /// if it is one.
@@ -50,31 +30,6 @@ pub(crate) struct Next {
     pub(crate) child: u32,
 }
 
-/// Says whether the node fits on the line.
-fn fits(line: LineEnd, flat: Flat, cols: u32) -> bool
-    ensures { (cs : List ℕ) → IsEnd line cs → result ≡ fits_in cols (last_line cs) flat.width }
-{
-    let Some(width) = flat.width else {
-        return false;
-    };
-    match line.columns.checked_add(width) {
-        Some(columns) => columns <= cols as usize,
-        None => false,
-    }
-}
-
-/// Says whether a node of the operator is a group that fits on the line.
-fn is_flat(plan: &Plan<'_>, op: u32, line: LineEnd, flat: Flat) -> bool
-    ensures { (layout : Layout) → AreRulesOf layout plan.now.rules.now → (cs : List ℕ) → IsEnd line cs
-        → result ≡ (is_group layout (Some op) && fits_in plan.now.cols (last_line cs) flat.width) }
-{
-    if plan.rules.is_group(op) {
-        fits(line, flat, plan.cols)
-    } else {
-        false
-    }
-}
-
 /// Says whether the mode is that of a flat group.
 fn has_no_breaks(spaces: Option<usize>) -> bool
     ensures { result ≡ arranged.is_flat spaces }
@@ -83,30 +38,6 @@ fn has_no_breaks(spaces: Option<usize>) -> bool
         Some(_) => false,
         None => true,
     }
-}
-
-/// Decides how an operator is written that is met where the sheet ends: it has the place among the nodes.
-fn decide(
-    plan: &Plan<'_>,
-    sheet: &Sheet,
-    flat: bool,
-    place: usize,
-    op: u32,
-) -> Result<Option<usize>, AllocError>
-    ensures { IfOk result (λ mode. (layout : Layout) → AreRulesOf layout plan.now.rules.now → (k : Ink)
-        → IsInk sheet.now k → mode ≡ decided_by layout plan.now.cols flat k (flat_in (flats_by plan.now) place)
-        (Some op)) }
-{
-    if flat {
-        return Ok(None);
-    }
-    let plain = flat_at(plan.plain, place);
-    let line = sheet.line_at(plain.lead)?;
-    if is_flat(plan, op, line, plain) {
-        return Ok(None);
-    }
-    let spaces = sum(line.spaces(), 2)?;
-    Ok(Some(spaces))
 }
 
 /// Returns the number of the next child after a part that has this number if it is a child.
@@ -148,8 +79,8 @@ fn write_child(
     tree: &Tree,
 ) -> Result<(), AllocError>
     requires { IsSound plan.now.definition.now }
-    ensures { OnOk result (Walks plan.now.rules.now
-        (λ layout w. child_by plan.now layout flat number w tree.now) arranger.old arranger.new) }
+    ensures { OnOk result (Walks plan.now
+        (λ k w. child_by plan.now k flat number w tree.now) arranger.old arranger.new) }
 {
     if plan.counts {
         write_node(alloc, arranger, plan, flat, tree)?;
@@ -174,10 +105,10 @@ fn write_sub(
     tree: &Tree,
 ) -> Result<(), AllocError>
     requires { IsSound plan.now.definition.now }
-    ensures { OnOk result (Walks plan.now.rules.now
-        (λ layout w. part_by plan.now layout mode.spaces mode.op next (Sub tree.now) w) arranger.old arranger.new) }
+    ensures { OnOk result (Walks plan.now
+        (λ k w. part_by plan.now k mode.spaces mode.op next (Sub tree.now) w) arranger.old arranger.new) }
 {
-    let plain = flat_at(plan.plain, arranger.nodes.len());
+    let plain = flat_at(plan.plain, arranger.place);
     let bracketed = is_below(plan.definition, tree, next.wanted);
     ask_child(
         &mut arranger.sheet,
@@ -205,8 +136,8 @@ fn write_part(
     part: &Part,
 ) -> Result<(), AllocError>
     requires { IsSound plan.now.definition.now }
-    ensures { OnOk result (Walks plan.now.rules.now
-        (λ layout w. part_by plan.now layout mode.spaces mode.op next part.now w) arranger.old arranger.new) }
+    ensures { OnOk result (Walks plan.now
+        (λ k w. part_by plan.now k mode.spaces mode.op next part.now w) arranger.old arranger.new) }
 {
     match part {
         Part::Sub(tree) => {
@@ -241,8 +172,8 @@ fn write_operator(
     parts: &[Part],
 ) -> Result<(), AllocError>
     requires { IsSound plan.now.definition.now }
-    ensures { OnOk result (Walks plan.now.rules.now
-        (λ layout w. below_by plan.now layout (within mode.spaces) 0 w
+    ensures { OnOk result (Walks plan.now
+        (λ k w. below_by plan.now k (within mode.spaces) 0 w
         (with_parts (plain_operator mode.op) parts.now)) arranger.old arranger.new) }
 {
     let items = items_of(plan.definition, mode.op);
@@ -285,8 +216,8 @@ fn write_list(
     unfinished: bool,
 ) -> Result<(), AllocError>
     requires { IsSound plan.now.definition.now }
-    ensures { OnOk result ((place : ℕ) → Walks plan.now.rules.now
-        (λ layout w. below_by plan.now layout (comes flat place) 0 w (list_of list elements.now unfinished))
+    ensures { OnOk result ((place : ℕ) → Walks plan.now
+        (λ k w. below_by plan.now k (comes flat place) 0 w (list_of list elements.now unfinished))
         arranger.old arranger.new) }
 {
     let mut rest = elements;
@@ -318,8 +249,8 @@ fn write_shape(
     tree: &Tree,
 ) -> Result<(), AllocError>
     requires { IsSound plan.now.definition.now }
-    ensures { OnOk result (Walks plan.now.rules.now
-        (λ layout w. below_by plan.now layout (comes flat place) 0 w tree.now) arranger.old arranger.new) }
+    ensures { OnOk result (Walks plan.now
+        (λ k w. below_by plan.now k (comes flat place) 0 w tree.now) arranger.old arranger.new) }
 {
     match tree.shape() {
         Shape::Op { op, parts } => {
@@ -352,7 +283,27 @@ fn write_shape(
     }
 }
 
-/// Writes a node, in a flat group or not, and lists it.
+/// Writes a node, in a flat group or not, part by part, and lists it.
+#[cycle(arrange)]
+fn write_met(
+    alloc: Global,
+    arranger: &mut Arranger,
+    plan: &Plan<'_>,
+    flat: bool,
+    tree: &Tree,
+) -> Result<(), AllocError>
+    requires { IsSound plan.now.definition.now }
+    ensures { OnOk result (Walks plan.now (λ k w. met_by plan.now k flat w tree.now) arranger.old arranger.new) }
+{
+    let place = arranger.place;
+    let listed = arranger.nodes.len();
+    let outer = arranger.open(alloc)?;
+    write_shape(alloc, arranger, plan, flat, place, tree)?;
+    arranger.close(listed, place, outer);
+    Ok(())
+}
+
+/// Writes a node, in a flat group or not. A group that is flat is copied from the plain text.
 #[cycle(arrange)]
 fn write_node(
     alloc: Global,
@@ -362,28 +313,34 @@ fn write_node(
     tree: &Tree,
 ) -> Result<(), AllocError>
     requires { IsSound plan.now.definition.now }
-    ensures { OnOk result (Walks plan.now.rules.now (λ layout w. node_by plan.now layout flat w tree.now)
-        arranger.old arranger.new) }
+    ensures { OnOk result (Walks plan.now (λ k w. node_by plan.now k flat w tree.now) arranger.old arranger.new) }
 {
-    let place = arranger.nodes.len();
-    let outer = arranger.open(alloc)?;
-    write_shape(alloc, arranger, plan, flat, place, tree)?;
-    arranger.close(place, outer);
-    Ok(())
+    let found = copy_at(plan, &arranger.sheet, flat, arranger.place, tree)?;
+    match found {
+        Some(own) => {
+            arranger.copy(own)?;
+            Ok(())
+        }
+        None => {
+            write_met(alloc, arranger, plan, flat, tree)?;
+            Ok(())
+        }
+    }
 }
 
-/// Writes a whole tree, in a flat group or not, or counts its text. It takes the memory for the nodes at once.
+/// Writes a whole tree, in a flat group or not. It takes the memory for so many listed nodes at once.
 pub(crate) fn write_whole(
     alloc: Global,
     plan: &Plan<'_>,
     flat: bool,
+    count: usize,
     tree: &Tree,
 ) -> Result<Arranger, AllocError>
     requires { IsSound plan.now.definition.now }
-    ensures { IfOk result (λ made. (layout : Layout) → AreRulesOf layout plan.now.rules.now
-        → IsWalk made (node_by plan.now layout flat (new_walk (not plan.now.counts)) tree.now)) }
+    ensures { IfOk result (λ made. (k : Known) → IsKnown plan.now k
+        → IsWalk made (node_by plan.now k flat new_walk tree.now)) }
 {
-    let mut arranger = Arranger::new(alloc, nodes(tree) as usize, !plan.counts)?;
+    let mut arranger = Arranger::new(alloc, count)?;
     write_node(alloc, &mut arranger, plan, flat, tree)?;
     Ok(arranger)
 }

@@ -26,6 +26,22 @@ const ROWS: &[(&str, &str, &str, u32, &str)] = &[
         12,
         "1\n  + 2 = 3\n    + 4",
     ),
+    // a flat group, and one after a break that breaks too
+    (
+        "group eq\ngroup plus\nbreak eq 1\nbreak plus 1",
+        "Exp",
+        "1 + 2 = 3 + 4",
+        8,
+        "1 + 2\n  = 3\n    + 4",
+    ),
+    // a break in front of a flat group
+    (
+        "group cat\nbreak eq 2\nbreak eq 1",
+        "Exp",
+        "漢字 = 漢字 & 漢字",
+        80,
+        "漢字\n  =\n  漢字 & 漢字",
+    ),
     // a break in front of a bracket
     (
         "group eq\nbreak eq 2\nbreak plus 2",
@@ -111,6 +127,30 @@ fn spans(rt: HostRuntime) -> Result<(), Fail> {
             "1 + (2 = 3)",
             80,
             "/ 0 13, /0 0 1, /1 7 12, /1/0 7 8, /1/1 11 12",
+        ),
+        // two flat groups, of which the second one follows a break: it is moved as a whole
+        (
+            "group eq\ngroup plus\nbreak eq 1\nbreak plus 1",
+            "Exp",
+            "1 + 2 = 3 + 4",
+            9,
+            "/ 0 15, /0 0 5, /0/0 0 1, /0/1 4 5, /1 10 15, /1/0 10 11, /1/1 14 15",
+        ),
+        // an empty list in a flat group that is moved
+        (
+            "break assign 1\ngroup call",
+            "Stats",
+            "x := 1 ; call p()",
+            80,
+            "/ 0 18, /0 0 8, /0/0 7 8, /1 10 18, /1/0 17 17",
+        ),
+        // a flat group with characters of three bytes
+        (
+            "group cat\nbreak eq 1",
+            "Exp",
+            "漢字 & 漢字 = 漢字",
+            80,
+            "/ 0 26, /0 0 15, /0/0 0 6, /0/1 9 15, /1 20 26",
         ),
     ] {
         let tree = tree(rt.alloc(), &definition, kind, program)?;

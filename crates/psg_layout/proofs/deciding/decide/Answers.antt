@@ -1,6 +1,6 @@
 use Rattle.std.proofs.Common.{Some, sym, ◌∙◌}
 use Rattle.psg_layout.proofs.DecideLaws.{ahead, decided_none, decided_some}
-use Rattle.psg_layout.proofs.walk.decide.Goals as goal
+use Rattle.psg_layout.proofs.deciding.decide.Goals as goal
 
 pub returns-then-is_flat : goal.returns-then-is_flat
 returns-then-is_flat c = λ layout r k h.
