@@ -10,6 +10,7 @@ use crate::casing::cases_after;
 use crate::derived::counted;
 use crate::fitting::verdict;
 use crate::given::Case;
+use crate::indexing::Index;
 use crate::refutation::{Claim, Verdict};
 use crate::relating::Rows;
 use crate::stages::Stage;
@@ -28,9 +29,10 @@ fn verdicts_on(
     requires covered { AreCoverable rows.now cases.now }
     ensures { IfOk result (λ v. AreRight rows.now cases.now v.items) }
 {
+    let index = Index::of(alloc, rows)?;
     let mut verdicts = Vec::new(alloc);
     for i in 0..cases.len() {
-        let told = verdict(alloc, rows, &cases[i])?;
+        let told = verdict(alloc, rows, &index, &cases[i])?;
         verdicts.push(told)?;
     }
     Ok(verdicts)

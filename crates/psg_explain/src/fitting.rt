@@ -13,6 +13,7 @@ ghost use Rattle.psg_explain.specs.Verdicts.{AreMade, IsRight, Rewrites};
 use crate::applying::{are_under, rewritten};
 use crate::derived::{Derived, counted};
 use crate::given::Case;
+use crate::indexing::{Index, number_of};
 use crate::putting::{alike, bounded};
 use crate::refutation::{Reason, Rule, Verdict};
 use crate::solver::{Solution, derive};
@@ -119,6 +120,50 @@ pub(crate) struct Fitting {
     pub(crate) values: Vec<Term>,
 }
 
+/// Tries the row at the place.
+fn fitting_at(
+    alloc: Global,
+    rows: &[Seq<Term>],
+    to: usize,
+    columns: &[Term],
+) -> Result<Option<Fitting>, AllocError>
+    requires { AreCanonical rows.now }
+    ensures { IfOk result (λ o. (t : Fitting) → o ≡ Some t → IsFitting rows.now columns.now t) }
+{
+    if rows.len() <= to {
+        return Ok(None);
+    }
+    let row = rows[to].as_slice();
+    let found = values_for(alloc, row, columns)?;
+    match found {
+        Some(values) => Ok(Some(Fitting { to, values })),
+        None => Ok(None),
+    }
+}
+
+/// Finds a row that becomes the columns among those with their number.
+fn fitting_alike(
+    alloc: Global,
+    rows: &[Seq<Term>],
+    index: &Index,
+    columns: &[Term],
+) -> Result<Option<Fitting>, AllocError>
+    requires { AreCanonical rows.now }
+    ensures { IfOk result (λ o. (t : Fitting) → o ≡ Some t → IsFitting rows.now columns.now t) }
+{
+    let number = number_of(columns);
+    for (other, to) in index.from(number) {
+        if *other != number {
+            return Ok(None);
+        }
+        let found = fitting_at(alloc, rows, *to, columns)?;
+        if found.is_some() {
+            return Ok(found);
+        }
+    }
+    Ok(None)
+}
+
 /// Finds the first row that becomes the columns.
 fn first_fitting(
     alloc: Global,
@@ -139,6 +184,26 @@ fn first_fitting(
     Ok(None)
 }
 
+/// Finds a row that becomes the columns. Where there is one with their number, no other row is tried.
+fn some_fitting(
+    alloc: Global,
+    rows: &[Seq<Term>],
+    index: &Index,
+    columns: &[Term],
+) -> Result<Option<Fitting>, AllocError>
+    requires { AreCanonical rows.now }
+    ensures { IfOk result (λ o. MatchOption o (IsUnfitting rows.now columns.now) (IsFitting rows.now columns.now)) }
+{
+    let alike = fitting_alike(alloc, rows, index, columns)?;
+    match alike {
+        Some(found) => Ok(Some(found)),
+        None => {
+            let found = first_fitting(alloc, rows, columns)?;
+            Ok(found)
+        }
+    }
+}
+
 /// Returns the verdict on a case where the derived equation of the number cannot be solved.
 fn failed(rules: Seq<Rule>, number: u32, reason: &Reason) -> Verdict
     ensures { (rows : List (List Plain)) (given all : List Equation) (columns : List Plain) → Derives given rules all
@@ -154,6 +219,7 @@ fn failed(rules: Seq<Rule>, number: u32, reason: &Reason) -> Verdict
 fn fitted(
     alloc: Global,
     rows: &[Seq<Term>],
+    index: &Index,
     case: &Case,
     derived: Derived,
     bindings: Vec<u32>,
@@ -165,7 +231,7 @@ fn fitted(
     requires made { Rewrites derived.all.items bindings.items case.now.columns made.now }
     ensures { IfOk result (IsRight rows.now case.now.given case.now.columns) }
 {
-    let found = first_fitting(alloc, rows, made)?;
+    let found = some_fitting(alloc, rows, index, made)?;
     match found {
         Some(found) => {
             let to = counted(found.to)?;
@@ -184,6 +250,7 @@ fn fitted(
 fn covered_case(
     alloc: Global,
     rows: &[Seq<Term>],
+    index: &Index,
     case: &Case,
     derived: Derived,
     bindings: Vec<u32>,
@@ -197,7 +264,7 @@ fn covered_case(
     let answer = rewritten(alloc, derived.all.as_slice(), bindings.as_slice(), columns)?;
     match answer {
         Some(made) => {
-            let verdict = fitted(alloc, rows, case, derived, bindings, made.as_slice())?;
+            let verdict = fitted(alloc, rows, index, case, derived, bindings, made.as_slice())?;
             Ok(verdict)
         }
         None => unreachable!(),
@@ -205,8 +272,13 @@ fn covered_case(
 }
 
 /// Makes the verdict on a case of a step with these rows, of which one covers the case where its equations have a
-/// solution.
-pub(crate) fn verdict(alloc: Global, rows: &[Seq<Term>], case: &Case) -> Result<Verdict, AllocError>
+/// solution. The index is to be that of the rows; another one takes longer, and the verdict is right.
+pub(crate) fn verdict(
+    alloc: Global,
+    rows: &[Seq<Term>],
+    index: &Index,
+    case: &Case,
+) -> Result<Verdict, AllocError>
     requires canonical { AreCanonical rows.now }
     requires covered { IsCoverable rows.now case.now.given case.now.columns }
     ensures { IfOk result (IsRight rows.now case.now.given case.now.columns) }
@@ -223,7 +295,7 @@ pub(crate) fn verdict(alloc: Global, rows: &[Seq<Term>], case: &Case) -> Result<
             Ok(failed(rules, failure.number, &failure.reason))
         }
         None => {
-            let verdict = covered_case(alloc, rows, case, derived, bindings)?;
+            let verdict = covered_case(alloc, rows, index, case, derived, bindings)?;
             Ok(verdict)
         }
     }

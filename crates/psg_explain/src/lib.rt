@@ -24,6 +24,7 @@ mod derived;
 pub mod explaining;
 mod fitting;
 mod given;
+mod indexing;
 pub mod last;
 pub mod laws;
 mod own_rows;
