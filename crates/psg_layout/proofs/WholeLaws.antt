@@ -208,7 +208,7 @@ module _ (def : Definition) (layout : Layout) (cols : ℕ) where
     abbrev pub arranging : Walk
     arranging = node_walk def layout cols kept copies true false new_walk t
 
-    second_puts : arranging.ink.page.puts ≡ arranged_puts def layout cols t
+    pub second_puts : arranging.ink.page.puts ≡ arranged_puts def layout cols t
     second_puts =
         let h : AreAhead def layout cols kept copies 0 (record { spot = top_spot; node = t } ∷ placed_below def top_spot 0 t) =
         subst (AreAhead def layout cols kept copies 0) (from-below def false [] [] top_spot t) all_ahead in
@@ -222,8 +222,8 @@ module _ (def : Definition) (layout : Layout) (cols : ℕ) where
     spans_map ps [] = refl
     spans_map ps (q ∷ qs) = ap (λ z. span_in def ps q ∷ z) (spans_map ps qs)
 
-    pub arranged_is : (text : List ℕ) (spans : List Span) → text ≡ text_in arranging.ink.page.puts → spans ≡ map (span_by arranging.ink.page.puts) reading.nodes
-        → ◌≡◌ {A = Printed} (record { text = text; spans = spans }) (arranged_in def layout cols t)
-    arranged_is text spans e f =
-        ap₂ (λ x y. record { text = x; spans = y }) (e ∙ ap text_in second_puts)
-        (f ∙ ap₂ (λ x y. map (span_by x) y) second_puts first_nodes ∙ spans_map (arranged_puts def layout cols t) (placed_in def t))
+    -- the nodes of the plain text, with the bytes that they have in the arranged one
+    pub spans_are : (nodes : List Node) → nodes ≡ reading.nodes
+        → map (span_by (arranged_puts def layout cols t)) nodes ≡ map (span_in def (arranged_puts def layout cols t)) (placed_in def t)
+    spans_are nodes e =
+        ap (map (span_by (arranged_puts def layout cols t))) (e ∙ first_nodes) ∙ spans_map (arranged_puts def layout cols t) (placed_in def t)

@@ -24,6 +24,6 @@ mod sheet;
 mod walk;
 mod writing;
 
-pub use arranging::arrange;
+pub use arranging::{arrange, arranged_text};
 pub use layout::{Layout, LayoutFault};
 pub use reading::read_layout;

@@ -6,7 +6,7 @@ ghost use Rattle.psg_grammar.specs.declared.types.Definition.{Definition as Plai
 ghost use Rattle.psg_grammar.specs.declared.types.Kind.{Kind};
 ghost use Rattle.psg_layout.specs.Arranged.{arranged_in};
 ghost use Rattle.psg_layout.specs.Layouts.{IsLayoutFault};
-ghost use Rattle.psg_run.specs.Arranging.{Arranges, ArrangesBy, IsReadLayout, ReadsLayout, arranged_text};
+ghost use Rattle.psg_run.specs.Arranging.{Arranges, ArrangesBy, IsReadLayout, ReadsLayout, arranged_text as arranged_text_of};
 ghost use Rattle.psg_run.specs.Reading.{Nowhere};
 ghost use Rattle.psg_run.specs.Scripts.{script_lines};
 ghost use Rattle.psg_run.specs.Worlds.{Incoming, seen};
@@ -19,7 +19,7 @@ use crate::silent::apply_all;
 use crate::source::{put_line, read_within, write_status};
 use crate::status::Status;
 use psg_grammar::Definition;
-use psg_layout::{Layout, LayoutFault, arrange, read_layout};
+use psg_layout::{Layout, LayoutFault, arranged_text, read_layout};
 use psg_session::Session;
 use psg_specimen::Language;
 use psg_terms::Steps;
@@ -79,8 +79,8 @@ fn tree_text(
     ensures { IfOk result (λ text. string_bytes text
         ≡ feed (arranged_in definition.now layout.now columns tree.now).text) }
 {
-    let printed = arrange(alloc, definition, layout, tree, columns)?;
-    let text = format!(in alloc; "{}\n", printed.text.as_str())?;
+    let mut text = arranged_text(alloc, definition, layout, tree, columns)?;
+    text.push_str("\n")?;
     Ok(text)
 }
 
@@ -92,7 +92,7 @@ fn arranged(
     layout: &Layout,
     columns: u32,
 ) -> Result<String, AllocError>
-    ensures { IfOk result (λ text. string_bytes text ≡ feed (arranged_text session.now.language layout.now columns
+    ensures { IfOk result (λ text. string_bytes text ≡ feed (arranged_text_of session.now.language layout.now columns
         (state_of session.now.editor).opened)) }
 {
     match session.note() {
