@@ -174,3 +174,35 @@ pub fn operators<L: Ledger>(
     let found = chosen(alloc, menu, each, steps)?;
     Ok(found)
 }
+
+/// Says whether the operator may be put at the place that the frames are around: whether with it, with new names and some
+/// literals, the fragment is open. `used` are the names that are not new. `Wide` is returned only where a relation of the
+/// fragment with the operator is too large, and always where besides none of the fragment itself is.
+pub fn fits<L: Ledger>(
+    alloc: Global,
+    definition: &Definition,
+    tables: &Tables,
+    frames: &[Frame],
+    op: u32,
+    used: &[Txt],
+    steps: &mut Steps<L>,
+) -> Result<bool, FocusFault>
+    requires sound { IsSound definition.now }
+    requires tables { AreTables definition.now tables.now }
+    requires operator { (o : Operator) × (slice_get definition.now.operators op ≡ Some o)
+        × CanClimb definition.now frames.now (OfPhylum o.phylum) }
+    ensures offered { IsOffered definition.now frames.now used.now op result }
+    ensures ticks { steps.new ≤ steps.old + op_ticks definition.now frames.now op }
+{
+    let bound = longest(definition, used);
+    let menu = Menu {
+        definition,
+        tables,
+        frames,
+        used,
+        longest: bound,
+    };
+    let mut classes = Classes::new(alloc);
+    let good = offered(alloc, menu, op, &mut classes, steps)?;
+    Ok(good)
+}

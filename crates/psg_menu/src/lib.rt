@@ -18,6 +18,6 @@ pub mod naming;
 mod sharing;
 mod words;
 
-pub use choosing::operators;
+pub use choosing::{fits, operators};
 pub use naming::names;
 pub use psg_eval::FocusFault;

@@ -20,3 +20,7 @@ pub mod FallingLaws
 pub mod WorkLaws
 pub mod SearchLaws
 pub mod WayLaws
+pub mod InsideLaws
+pub mod ThereLaws
+pub mod WalkLaws
+pub mod BackLaws

@@ -77,7 +77,7 @@ blamed_all kept i total le h = h ∙ ap blamed_in (take_all i kept le)
 
 -- ---- places one after the other
 
-opened_both : (kept : List Bool) (n : ℕ) (xs ys : List Place)
+pub opened_both : (kept : List Bool) (n : ℕ) (xs ys : List Place)
     → opened_among kept n (xs ++ ys) ≡ opened_among kept n xs ++ opened_among kept (n + length xs) ys
 opened_both kept n [] ys = let z : n ≡ n + 0 = omega arith in ap (λ m. opened_among kept m ys) z
 opened_both kept n (x ∷ xs) ys =

@@ -7,3 +7,4 @@ pub mod Openings
 pub mod Listings
 pub mod Answers
 pub mod Ways
+pub mod Leading

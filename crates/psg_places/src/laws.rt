@@ -1,5 +1,5 @@
 //! Laws of blame.
-ghost use Rattle.std.specs.Prelude.{ℕ, ◌<◌, ◌^◌};
+ghost use Rattle.std.specs.Prelude.{ℕ, ◌<◌, ◌^◌, Bool, List};
 ghost use Rattle.psg_cache.specs.Notes.{IsFormed};
 ghost use Rattle.psg_completions.specs.Conditions.{HasTrueRows};
 ghost use Rattle.psg_grammar.specs.Fragments.{Fragment};
@@ -10,6 +10,7 @@ ghost use Rattle.psg_terms.specs.Names.{Name};
 ghost use Rattle.psg_places.specs.Blame.{IsFalling, IsForAllNames, IsGoodIfKept, IsNeeded, IsNoneWhereGood, IsOfPlaces, IsOne};
 ghost use Rattle.psg_places.specs.Blame.{IsWhole, KeepsAll, Leaves};
 ghost use Rattle.psg_places.specs.ByPlaces.{AreNumbered};
+ghost use Rattle.psg_places.specs.Leading.{LeadsBack, LeadsThere};
 ghost use Rattle.psg_places.specs.NewNames.{AreNew, IsFront, new_name};
 ghost use Rattle.psg_places.specs.Places.{AreCounted, place_count};
 
@@ -91,6 +92,24 @@ pub fn none_where_good(definition: &Definition)
         → AreNew definition.now f fresh → IsNoneWhereGood (IsOpen definition.now) definition.now f fresh }
     ensures completable { HasTrueRows definition.now → (f : Fragment) → IsFormed definition.now f → (fresh : ℕ → Name)
         → AreNew definition.now f fresh → IsNoneWhereGood (IsCompletable definition.now) definition.now f fresh }
+{
+    let _same = definition;
+}
+
+/// States that the path there of a node leads to what becomes of it in the tree of the kept places: to a placeholder if
+/// the node is opened itself, and else to the node with what is below it opened.
+pub fn leads_there(definition: &Definition)
+    ensures { (kept : List Bool) (fresh : ℕ → Name) (f : Fragment) → IsFormed definition.now f
+        → LeadsThere definition.now kept fresh f }
+{
+    let _same = definition;
+}
+
+/// States that each node of the tree of the kept places is one of the whole tree: its path back leads there, and the path
+/// there of that node is its own.
+pub fn leads_back(definition: &Definition)
+    ensures { (kept : List Bool) (fresh : ℕ → Name) (f : Fragment) → IsFormed definition.now f
+        → LeadsBack definition.now kept fresh f }
 {
     let _same = definition;
 }

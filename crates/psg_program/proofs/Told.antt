@@ -13,7 +13,7 @@ use Rattle.psg_stop.specs.declared.wanted.Wanted.{Wanted}
 use Rattle.psg_stop.specs.declared.wanted.Wanted.TheVariants.{More}
 use Rattle.psg_stop.specs.Wanted.{hole_terminal, wanted_terminal, wanted_terminals, word_terminal}
 use Rattle.psg_stop.proofs.Rows.{wanted_push}
-use Rattle.psg_program.specs.Expected.{AreTold, IsAdded, IsEndTold, end_left_out, end_told, none_told, one_left_out, one_told, terminals_in_order, words_in_order}
+use Rattle.psg_program.specs.Expected.{AreTold, AreToldBoth, IsAdded, IsEndTold, end_left_out, end_told, none_told, one_left_out, one_told, terminals_in_order, words_in_order}
 
 -- ---- looking for a kind of token
 
@@ -86,6 +86,17 @@ told_so same (t ∷ ts) ws (one_left_out never a) = one_left_out (λ q. never ((
 pub end_so : {P Q : Type 0} → P ↔ Q → (ws : List (List ℕ)) → IsEndTold P ws → IsEndTold Q ws
 end_so same ws (end_told p) = end_told (same.0 p)
 end_so same ws (end_left_out never) = end_left_out (λ q. never (same.1 q))
+
+-- of both
+pub both_so : {P Q : Terminal → Type 0} {E F : Type 0} → ((t : Terminal) → P t ↔ Q t) → E ↔ F → (all : List Terminal)
+    (words : List (List ℕ)) → AreToldBoth P E all words → AreToldBoth Q F all words
+both_so same ends all words b = record {
+  terminals = b.terminals;
+  ends = b.ends;
+  are_told = told_so same all b.terminals b.are_told;
+  is_end_told = end_so ends b.ends b.is_end_told;
+  whole = b.whole;
+}
 
 abbrev pub texts : List (String Global) → List (List ℕ)
 texts ws = map string_bytes ws

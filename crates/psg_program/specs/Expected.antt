@@ -67,11 +67,16 @@ pub record IsAdded (Holds : List (List ℕ) → Type 0) (old new : List (List �
   pub holds : Holds words
   pub whole : new ≡ old ++ words
 
--- What may come after the tokens: exactly the terminals that go on with them, and that they are a whole program where
--- they are.
-pub record AreExpected (def : Definition) (kind : Kind) (ts : List Token) (words : List (List ℕ)) : Type 0 where
+-- Exactly those of the terminals are told for which the one holds, and the end of the text where the other does.
+pub record AreToldBoth (Goes : Terminal → Type 0) (Ends : Type 0) (all : List Terminal) (words : List (List ℕ)) : Type 0 where
   pub terminals : List (List ℕ)
   pub ends : List (List ℕ)
-  pub are_told : AreTold (GoesWith def kind 0 ts) (terminals_in_order def) terminals
-  pub is_end_told : IsEndTold (MayEnd def kind 0 ts) ends
+  pub are_told : AreTold Goes all terminals
+  pub is_end_told : IsEndTold Ends ends
   pub whole : words ≡ terminals ++ ends
+
+-- What may come after the tokens: exactly the terminals that go on with them, and that they are a whole program where
+-- they are.
+abbrev pub AreExpected : Definition → Kind → List Token → List (List ℕ) → Type 0
+AreExpected def kind ts words =
+    AreToldBoth (GoesWith def kind 0 ts) (MayEnd def kind 0 ts) (terminals_in_order def) words

@@ -5,3 +5,4 @@ pub mod Messages
 pub mod Programs
 pub mod Formatted
 pub mod Compared
+pub mod OneAnswer

@@ -1,5 +1,7 @@
 -- The messages for a text that is no program.
-use Rattle.std.specs.Prelude.{ℕ, List, [], ◌∷◌, ◌++◌, Option, Some, None, codes, slice_get, slice_range}
+use Rattle.std.specs.Prelude.{ℕ, ◌≡◌, List, [], ◌∷◌, ◌++◌, Option, Some, None, codes, slice_get, slice_range}
+use Rattle.psg_grammar.specs.declared.types.Definition.{Definition}
+use Rattle.psg_class.specs.Texts.{TextTokens}
 use Rattle.psg_lexis.specs.declared.token.Spanned.{Spanned}
 use Rattle.psg_lexis.specs.declared.token.LexFault.{LexFault}
 use Rattle.psg_lexis.specs.declared.token.LexFault.TheVariants as faults
@@ -36,6 +38,12 @@ start_or (Some t) byte = t.start
 -- the byte of the stop: where its token begins, or where the last token ends
 abbrev pub stop_byte : List Spanned → ℕ → ℕ
 stop_byte ts stop = start_or (slice_get ts stop) (end_of_last 0 ts)
+
+-- the token, if there is one, has the bytes of a token of the text
+abbrev pub HasSpan : List ℕ → Option Spanned → Type 0
+HasSpan text None = Unit {0}
+HasSpan text (Some t) = (def : Definition) × (tokens : List Spanned) × TextTokens def text tokens × (place : ℕ)
+    × (own : Spanned) × (slice_get tokens place ≡ Some own) × (own.start ≡ t.start) × (own.end ≡ t.end)
 
 -- what is there, as it is written in the text
 abbrev pub unexpected : List ℕ → Option Spanned → List ℕ

@@ -1,10 +1,8 @@
 //! What may come after tokens that begin a program, in words.
 ghost use Rattle.std.specs.Prelude.{◌≡◌, ◌↔◌, ◌++◌, ◌∷◌, [], IfOk, IsTrue, List, OnOk, map, string_bytes, true};
-ghost use Rattle.psg_class.specs.Terminals.{Token, a_hole, a_more, a_name, a_number, a_text, fixed};
-ghost use Rattle.psg_grammar.specs.declared.types.Kind.{Kind};
-ghost use Rattle.psg_parse.specs.Stops.{MayEnd};
-ghost use Rattle.psg_program.specs.Expected.{AreExpected, AreTold, IsAdded, IsEndTold, terminals_in_order, told_of};
-ghost use Rattle.psg_stop.specs.Wanted.{AreWanted, hole_terminal, wanted_terminal, wanted_terminals, word_terminal};
+ghost use Rattle.psg_class.specs.Terminals.{a_hole, a_more, a_name, a_number, a_text, fixed};
+ghost use Rattle.psg_program.specs.Expected.{AreTold, AreToldBoth, IsAdded, IsEndTold, terminals_in_order, told_of};
+ghost use Rattle.psg_stop.specs.Wanted.{hole_terminal, wanted_terminal, wanted_terminals, word_terminal};
 ghost use Rattle.psg_terms.specs.Relations.{IsIn};
 
 use crate::words::sorted_words;
@@ -230,15 +228,13 @@ fn tell_end(alloc: Global, may_end: bool, words: &mut Vec<String>) -> Result<(),
 /// Returns what may be at the stop, in words: the fixed words in the order of their bytes, then names, numbers and texts,
 /// the placeholders in the order of the phyla, the mark `...`, and the end of the text. It compares each kind of token
 /// with each that is wanted.
-pub(crate) fn expected_words(
+pub fn expected_words(
     alloc: Global,
     definition: &Definition,
     stop: &Stop,
 ) -> Result<Vec<String>, AllocError>
-    ensures { IfOk result (λ words. (kind : Kind) (ts : List Token)
-        → AreWanted definition.now kind 0 ts (wanted_terminals stop.now.wanted.items)
-        → ((stop.now.may_end ≡ true) ↔ MayEnd definition.now kind 0 ts)
-        → AreExpected definition.now kind ts (map string_bytes words.items)) }
+    ensures { IfOk result (λ words. AreToldBoth (λ t. IsIn t (wanted_terminals stop.now.wanted.items))
+        (stop.now.may_end ≡ true) (terminals_in_order definition.now) (map string_bytes words.items)) }
 {
     let all = in_order(alloc, definition)?;
     let mut words = told_words(alloc, all.as_slice(), stop.wanted.as_slice())?;

@@ -15,12 +15,16 @@ mod comparing;
 mod decoding;
 mod expected;
 pub mod fault;
+pub mod laws;
 mod messages;
 pub mod places;
 pub mod reading;
 mod texts;
 mod words;
 
+pub use decoding::unmarked;
+pub use expected::expected_words;
+pub use messages::{stop_byte, stop_message};
 pub use comparing::{Difference, first_difference};
 pub use fault::{ProgramFault, SyntaxError};
 pub use places::{Place, place_of};

@@ -1,11 +1,10 @@
 //! The messages for texts that are no programs.
 ghost use Rattle.std.specs.Prelude.{◌≡◌, ◌++◌, IfOk, OnOk, List, Some, ℕ, chars, map, slice_get, slice_range, string_bytes};
 ghost use Rattle.psg_grammar.specs.WellFormed.{fixed_words};
-ghost use Rattle.psg_class.specs.Texts.{TextTokens};
 ghost use Rattle.psg_grammar.specs.declared.types.Definition.{Definition as Plain};
 ghost use Rattle.psg_grammar.specs.declared.types.Kind.{Kind};
 ghost use Rattle.psg_lexis.specs.Faults.{HasFault, OrMemory};
-ghost use Rattle.psg_program.specs.Messages.{after_commas, end_of_last, enumerated, stop_byte as stop_byte_of};
+ghost use Rattle.psg_program.specs.Messages.{HasSpan, after_commas, end_of_last, enumerated, stop_byte as stop_byte_of};
 ghost use Rattle.psg_program.specs.Messages.{stop_message as stop_message_of, unexpected as unexpected_of};
 ghost use Rattle.psg_program.specs.Programs.{IsTextFault, IsToldAt};
 
@@ -66,7 +65,7 @@ fn last_end(tokens: &[Spanned]) -> usize
 }
 
 /// Returns the byte of the stop: where its token begins, or where the last token ends.
-pub(crate) fn stop_byte(tokens: &[Spanned], stop: usize) -> usize
+pub fn stop_byte(tokens: &[Spanned], stop: usize) -> usize
     ensures { result ≡ stop_byte_of tokens.now stop }
 {
     match tokens.get(stop) {
@@ -77,8 +76,7 @@ pub(crate) fn stop_byte(tokens: &[Spanned], stop: usize) -> usize
 
 /// Returns the token as it is written in the text.
 fn written<'t>(text: &'t str, token: &Spanned) -> &'t str
-    requires { (def : Plain) × ((tokens : List Spanned) × ((place : ℕ) × (TextTokens def text.now tokens
-        × (slice_get tokens place ≡ Some token.now)))) }
+    requires { HasSpan text.now (Some token.now) }
     ensures { result.now ≡ slice_range text.now token.now.start token.now.end }
 {
     match text.get(token.start..token.end) {
@@ -94,7 +92,7 @@ fn unexpected(
     tokens: &[Spanned],
     stop: usize,
 ) -> Result<String, AllocError>
-    requires { (def : Plain) × TextTokens def text.now tokens.now }
+    requires { HasSpan text.now (slice_get tokens.now stop) }
     ensures { IfOk result (λ words. string_bytes words ≡ unexpected_of text.now (slice_get tokens.now stop)) }
 {
     match tokens.get(stop) {
@@ -130,14 +128,14 @@ fn push_enumerated(line: &mut String, words: &[String]) -> Result<(), AllocError
 }
 
 /// Writes the message for the stop of the text's tokens, where these words may be there.
-pub(crate) fn stop_message(
+pub fn stop_message(
     alloc: Global,
     text: &str,
     tokens: &[Spanned],
     stop: usize,
     words: &[String],
 ) -> Result<String, AllocError>
-    requires { (def : Plain) × TextTokens def text.now tokens.now }
+    requires { HasSpan text.now (slice_get tokens.now stop) }
     ensures { IfOk result (λ message. string_bytes message
         ≡ stop_message_of text.now tokens.now stop (map string_bytes words.now)) }
 {
