@@ -4,7 +4,7 @@ use std::alloc::{AllocError, Global};
 
 /// Keys by letters, and the line after them, with `|` at the cursor. `<` and `>` are Left and Right, `[` and `]` Home
 /// and End, `-` and `=` Backspace and Delete, `!` is Ctrl-U, `^` and `_` are Up and Down, `/` keeps the line, `~` is a
-/// pasted line feed; any other character is typed.
+/// pasted line feed, `@` puts `xy` in place of the line; any other character is typed.
 const TYPED: &[(&str, &str)] = &[
     ("", "|"),
     ("ab", "ab|"),
@@ -42,6 +42,14 @@ const TYPED: &[(&str, &str)] = &[
     ("ab/new^_", "new|"),
     ("ab/cd/new<^^__x", "newx|"),
     ("ab/new_", "new|"),
+    // a line that is put has its cursor at its end, and the earlier lines stay
+    ("@", "xy|"),
+    ("ab<@", "xy|"),
+    ("ab<@c", "xyc|"),
+    ("ab/cd@^", "ab|"),
+    ("ab/cd@^_", "xy|"),
+    ("ab/cd/^^@^", "cd|"),
+    ("ab/^@/^", "xy|"),
 ];
 
 /// Plays one letter.
@@ -58,6 +66,13 @@ fn play(alloc: Global, lines: &mut Lines, c: char) -> Result<(), AllocError> {
         '_' => Key::Down,
         '~' => Key::Pasted('\n'),
         '/' => return lines.keep(alloc),
+        '@' => {
+            let mut own = Vec::new(alloc);
+            own.push('x')?;
+            own.push('y')?;
+            lines.put(alloc, own);
+            return Ok(());
+        }
         c => Key::Char(c),
     };
     lines.press(alloc, key)?;
