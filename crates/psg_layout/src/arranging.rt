@@ -114,7 +114,8 @@ pub fn arrange(
     Ok(Printed { text, spans })
 }
 
-/// Arranges the tree for the columns, as `arrange` does, and returns its text alone.
+/// Arranges the tree for the columns, as `arrange` does, and returns its text alone. The cost is linear in the text and in
+/// the plain text.
 pub fn arranged_text(
     alloc: Global,
     definition: &Definition,

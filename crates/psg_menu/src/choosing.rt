@@ -175,9 +175,10 @@ pub fn operators<L: Ledger>(
     Ok(found)
 }
 
-/// Says whether the operator may be put at the place that the frames are around: whether with it, with new names and some
-/// literals, the fragment is open. `used` are the names that are not new. `Wide` is returned only where a relation of the
-/// fragment with the operator is too large, and always where besides none of the fragment itself is.
+/// Says whether the operator may be put at the place that the frames are around: whether with it, with new names and
+/// some literals, the fragment is open. `used` are the names that are not new. `Wide` is returned only where a relation
+/// of the fragment with the operator is too large, and always where besides none of the fragment itself is. It takes one
+/// tick, one for each slot of the operator, and those of a climb, or fewer.
 pub fn fits<L: Ledger>(
     alloc: Global,
     definition: &Definition,

@@ -97,7 +97,7 @@ pub fn none_where_good(definition: &Definition)
 }
 
 /// States that the path there of a node leads to what becomes of it in the tree of the kept places: to a placeholder if
-/// the node is opened itself, and else to the node with what is below it opened.
+/// the node is opened itself, and else to the node with some places below it opened.
 pub fn leads_there(definition: &Definition)
     ensures { (kept : List Bool) (fresh : ℕ → Name) (f : Fragment) → IsFormed definition.now f
         → LeadsThere definition.now kept fresh f }

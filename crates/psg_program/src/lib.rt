@@ -22,11 +22,11 @@ pub mod reading;
 mod texts;
 mod words;
 
+pub use comparing::{Difference, first_difference};
 pub use decoding::unmarked;
 pub use expected::expected_words;
-pub use messages::{stop_byte, stop_message};
-pub use comparing::{Difference, first_difference};
 pub use fault::{ProgramFault, SyntaxError};
+pub use messages::{stop_byte, stop_message};
 pub use places::{Place, place_of};
 pub use reading::{Program, read_program};
 pub use texts::formatted;
