@@ -127,8 +127,8 @@ fn push_enumerated(line: &mut String, words: &[String]) -> Result<(), AllocError
     Ok(())
 }
 
-/// Writes the message for the stop of the text's tokens, where these words may be there. A stop after the last token is the
-/// end of the text. `words` are to be at least one: without them the message ends after `expected `.
+/// Writes the message for the stop of the text's tokens, where these words may be there. A stop after the last token is
+/// the end of the text. `words` are to be at least one: without them the message ends after `expected `.
 pub fn stop_message(
     alloc: Global,
     text: &str,
