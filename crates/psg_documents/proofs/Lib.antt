@@ -1,0 +1,4 @@
+pub mod CountLaws
+pub mod FindLaws
+pub mod StartLaws
+pub mod UnitLaws

@@ -1,0 +1,7 @@
+use Rattle.psg_picture.proofs.RowLaws.{same-step}
+use Rattle.psg_picture.proofs.windowed.push_spaces.Goals as goal
+
+pub loop-preserved : goal.loop-preserved
+loop-preserved c =
+    same-step c.args.row.now.items c.loop.row.items c.push.new.self.items c.args.style c.loop.counter 32 c.loop.invariant
+    c.in_ok-push.ensures.items

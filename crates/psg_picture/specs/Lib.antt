@@ -1,0 +1,4 @@
+pub mod Marked
+pub mod Pictures
+pub mod Rows
+pub mod Scrolling

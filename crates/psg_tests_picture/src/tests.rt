@@ -1,0 +1,4 @@
+//! Pictures that were worked out by hand.
+mod seen;
+mod shown;
+mod words;

@@ -1,0 +1,3 @@
+//! Programs of MINI.
+mod languages;
+mod uses;
