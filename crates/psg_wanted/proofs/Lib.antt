@@ -1,0 +1,5 @@
+mod KeyLaws
+mod ListedLaws
+pub mod SiteLaws
+mod TextLaws
+mod ValueLaws

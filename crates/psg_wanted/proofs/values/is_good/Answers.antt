@@ -1,0 +1,18 @@
+use Rattle.std.proofs.Common.{IfSome, subst}
+use Rattle.std.specs.Prelude.{Option}
+use Rattle.psg_cache.specs.Annotated.{Annotated}
+use Rattle.psg_cache.specs.Notes.{IsNoteOf, TellsOpen}
+use Rattle.psg_wanted.proofs.ValueLaws.{good_told, not_good}
+use Rattle.psg_wanted.proofs.values.is_good.Goals as goal
+
+pub returns-in-Some : goal.returns-in-Some
+returns-in-Some g c =
+    let def = c.args.definition.now in
+    let tree = c.args.tree.now in
+    good_told def tree c.in-Some.note c.is_good-good.result
+    (subst (λ (o : Option Annotated). IfSome o (IsNoteOf def tree)) c.in-Some.is c.in_ok-found.ensures.note)
+    (subst (λ (o : Option Annotated). IfSome o (TellsOpen def tree)) c.in-Some.is c.in_ok-found.ensures.open)
+    c.is_good-good.ensures.rows
+
+pub returns-in-None : goal.returns-in-None
+returns-in-None g c = not_good c.args.definition.now c.args.tree.now (c.in_ok-found.ensures.none c.in-None.is)
