@@ -89,7 +89,7 @@ struct Told {
     message: String,
 }
 
-fn told(
+fn stopped(
     alloc: Global,
     definition: &Definition,
     goal: Goal,
@@ -120,7 +120,7 @@ fn tells(rt: &impl Abort, alloc: Global, kind: Kind, rows: &[Row]) -> Result<(),
     };
     for (text, byte, there, words) in rows {
         let tokens = tokens(alloc, &definition, text)?;
-        let told = told(alloc, &definition, goal, text, tokens.as_slice())?;
+        let told = stopped(alloc, &definition, goal, text, tokens.as_slice())?;
         let message = format!(in alloc; "unexpected {there}, expected {words}")?;
         assert_eq!(rt; told.byte, *byte, "{text}");
         assert_eq!(rt; told.words.as_str(), *words, "{text}");

@@ -1,5 +1,5 @@
 use Rattle.psg_tests_program.proofs.Spans.{has_span}
-use Rattle.psg_tests_program.proofs.tests.stops.told.Goals as goal
+use Rattle.psg_tests_program.proofs.tests.stops.stopped.Goals as goal
 
 pub stop_message-requires : goal.stop_message-requires
 stop_message-requires c =
