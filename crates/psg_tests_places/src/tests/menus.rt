@@ -56,11 +56,7 @@ const TRIALS: &[Trial<'static>] = &[
         path: &[1, 0, 0],
         number: None,
         used: &["aaaaaa"],
-        rows: &[
-            ("ref", "fits"),
-            ("tru", "fits"),
-            ("num", "does not fit"),
-        ],
+        rows: &[("ref", "fits"), ("tru", "fits"), ("num", "does not fit")],
     },
     // the argument that is wanted
     Trial {
@@ -68,11 +64,7 @@ const TRIALS: &[Trial<'static>] = &[
         path: &[1, 0, 0],
         number: Some(0),
         used: &["p", "b"],
-        rows: &[
-            ("num", "fits"),
-            ("ref", "fits"),
-            ("tru", "does not fit"),
-        ],
+        rows: &[("num", "fits"), ("ref", "fits"), ("tru", "does not fit")],
     },
     // an argument too many
     Trial {
