@@ -1,0 +1,31 @@
+//! Bytes without their byte order mark.
+use psg_program::unmarked;
+use std::test::Fail;
+
+/// Bytes, and what they are without their mark.
+const MARKS: &[(&[u8], &[u8])] = &[
+    (&[], &[]),
+    (&[0x61], &[0x61]),
+    (&[0xef, 0xbb, 0xbf], &[]),
+    (&[0xef, 0xbb, 0xbf, 0x61, 0x0a], &[0x61, 0x0a]),
+    // the second mark is a character of the text
+    (
+        &[0xef, 0xbb, 0xbf, 0xef, 0xbb, 0xbf, 0x61],
+        &[0xef, 0xbb, 0xbf, 0x61],
+    ),
+    // fewer bytes than a mark
+    (&[0xef], &[0xef]),
+    (&[0xef, 0xbb], &[0xef, 0xbb]),
+    // another last byte
+    (&[0xef, 0xbb, 0xbe, 0x61], &[0xef, 0xbb, 0xbe, 0x61]),
+    // a mark that is not at the beginning
+    (&[0x61, 0xef, 0xbb, 0xbf], &[0x61, 0xef, 0xbb, 0xbf]),
+];
+
+#[test]
+fn marks(rt: HostRuntime) -> Result<(), Fail> {
+    for (bytes, expected) in MARKS {
+        assert_eq!(rt; unmarked(bytes), *expected);
+    }
+    Ok(())
+}
