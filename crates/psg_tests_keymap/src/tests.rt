@@ -30,15 +30,23 @@ const PROGRAM: &str =
     "begin\n  var n : ?TypeX;\n  ...\ndo\n  n := 1;\n  ?Stat;\n  call p(?Exp, ...);\n\
   \x20 while true do\n    skip\n  od;\n  ...\nend\n";
 
-/// Returns the language MINI.
-fn mini(alloc: Global) -> Result<Language, AllocError> {
-    let Ok(read) = read_definition(alloc, MINI.as_bytes()) else {
+/// Returns the language of the definition.
+fn language_of(alloc: Global, definition: &str) -> Result<Language, AllocError> {
+    if definition.len() >= 1_048_576 {
+        return Err(AllocError);
+    }
+    let Ok(read) = read_definition(alloc, definition.as_bytes()) else {
         return Err(AllocError);
     };
     match accept(alloc, read) {
         Ok(language) => Ok(language),
         Err(_) => Err(AllocError),
     }
+}
+
+/// Returns the language MINI.
+fn mini(alloc: Global) -> Result<Language, AllocError> {
+    language_of(alloc, MINI)
 }
 
 /// Returns the first phylum, if there is one.

@@ -131,7 +131,8 @@ fn node_site(alloc: Global, note: &Note, path: &Path) -> Result<Option<Site>, Al
     Ok(Some(Site { phylum, around }))
 }
 
-/// The site of one more element before that of the number, in the list at the path; `None` where there is no such place.
+/// The site of one more element before that of the number, in the list at the path; `None` where there is no such
+/// place.
 fn element_site(
     alloc: Global,
     definition: &Definition,

@@ -1,4 +1,5 @@
-//! What is told of texts that are no programs: at which byte they stop to begin one, what may be there, and the message.
+//! What is told of texts that are no programs: the byte at which they stop to begin one, what may be there, and the
+//! message.
 ghost use Rattle.psg_grammar.specs.Sound.{IsSound};
 ghost use Rattle.psg_class.specs.Class.{IsClass};
 ghost use Rattle.psg_class.specs.Texts.{TextTokens};
@@ -152,7 +153,8 @@ fn told_alone(
     stop_message(alloc, text, tokens, stop, &[])
 }
 
-/// A place after all tokens is told as the end of the text, whatever its number, and without words nothing is enumerated.
+/// A place after all tokens is told as the end of the text, whatever its number is. Without words nothing is enumerated
+/// after `expected `.
 #[test]
 fn places_after_the_last_token(rt: HostRuntime) -> Result<(), Fail> {
     let alloc = rt.alloc();

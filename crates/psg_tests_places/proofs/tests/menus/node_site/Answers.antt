@@ -11,4 +11,5 @@ returns c = λ def f is.
     let path = c.args.path.now in
     climbs def f n is path c.in-Some.own.now c.in-Some.ensures.some c.in-Some-found.around.items c.in-Phylum.phylum
     (sym c.kind.ensures ∙ c.in-Phylum.is)
-    (subst (λ o. MatchOption o (IsNoSummaryAt n path) (λ v. AreFramesAt n path v.items)) c.in-Some-found.is c.in_ok-found.ensures)
+    (subst (λ o. MatchOption o (IsNoSummaryAt n path) (λ v. AreFramesAt n path v.items))
+    c.in-Some-found.is c.in_ok-found.ensures)
