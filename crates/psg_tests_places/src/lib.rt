@@ -1,5 +1,4 @@
-//! Worked programs: which places of a tree are kept, the repaired tree, and what may be put at a place. It has tests
-//! alone.
+//! Worked programs: which places of a tree are kept, and the repaired tree. It has tests alone.
 #![tactic(auto)]
 
 #[cfg(test)]

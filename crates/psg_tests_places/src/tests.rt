@@ -1,5 +1,4 @@
-//! Programs of MINI with mistakes, and what may be put at their places.
+//! Programs of MINI with mistakes.
 mod languages;
-mod menus;
 mod parts;
 mod programs;

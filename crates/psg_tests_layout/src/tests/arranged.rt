@@ -1,5 +1,5 @@
 //! Programs of MINI, arranged.
-use super::languages::{arranged, mini, spans_shown, text_alone, tree};
+use super::languages::{arranged, mini, spans_shown, tree};
 use std::test::Fail;
 
 const SUMS: &str = "group plus\nbreak plus 1";
@@ -104,8 +104,6 @@ fn texts(rt: HostRuntime) -> Result<(), Fail> {
         let tree = tree(rt.alloc(), &definition, kind, program)?;
         let printed = arranged(rt.alloc(), &definition, file, &tree, *cols)?;
         assert_eq!(rt; printed.text.as_str(), *text);
-        let alone = text_alone(rt.alloc(), &definition, file, &tree, *cols)?;
-        assert_eq!(rt; alone.as_str(), *text);
     }
     Ok(())
 }

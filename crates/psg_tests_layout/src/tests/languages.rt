@@ -10,7 +10,7 @@ use psg_class::class_check;
 use psg_defread::read_definition;
 use psg_grammar::{Definition, kind_named};
 use psg_langs::MINI;
-use psg_layout::{LayoutFault, arrange, arranged_text, read_layout};
+use psg_layout::{LayoutFault, arrange, read_layout};
 use psg_lexis::{Lexis, Spanned, lex};
 use psg_parse::{Goal, ParseFault, fixed_words, parse};
 use psg_terms::Steps;
@@ -105,26 +105,6 @@ pub(super) fn arranged(
     }
     match read_layout(alloc, definition, file.as_bytes()) {
         Ok(layout) => arrange(alloc, definition, &layout, tree, cols),
-        Err(_) => Err(AllocError),
-    }
-}
-
-/// The text alone of a program arranged for the columns by the layout of this file.
-pub(super) fn text_alone(
-    alloc: Global,
-    definition: &Definition,
-    file: &str,
-    tree: &Tree,
-    cols: u32,
-) -> Result<String, AllocError>
-    requires sound { IsSound definition.now }
-    requires formed { (kind : Kind) × WellFormed definition.now tree.now kind }
-{
-    if file.len() > 65_536 {
-        return Err(AllocError);
-    }
-    match read_layout(alloc, definition, file.as_bytes()) {
-        Ok(layout) => arranged_text(alloc, definition, &layout, tree, cols),
         Err(_) => Err(AllocError),
     }
 }

@@ -1,4 +1,0 @@
-use Rattle.psg_tests_uses.proofs.tests.languages.tree_of_kind.Given as goal
-
-abbrev pub ghosts-counted : goal.ghosts-counted
-ghosts-counted a = record { name = a.ledger.name; parts = a.ledger.parts }

@@ -1,3 +1,0 @@
-//! Programs of MINI.
-mod languages;
-mod uses;
