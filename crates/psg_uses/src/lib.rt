@@ -2,7 +2,7 @@
 //!
 //! ```text
 //! let here = region_of(alloc, known, tree, path)?;
-//! tell_free(alloc, linking, spots, &mut found)?;
+//! let free = free_uses(alloc, linking)?;
 //! ```
 //!
 //! A region is what a scope operator encloses: a name that is declared in it means that declaration, and an outer one
