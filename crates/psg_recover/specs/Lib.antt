@@ -1,0 +1,11 @@
+pub mod Findings
+pub mod Grammars
+pub mod Lost
+pub mod TextPlaces
+pub mod Spotted
+pub mod Reads
+pub mod Recovery
+pub mod Candidates
+pub mod Readers
+pub mod Rows
+pub mod Leaving
