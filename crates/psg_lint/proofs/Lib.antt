@@ -1,0 +1,16 @@
+mod EndLaws
+mod MessageLaws
+mod LineLaws
+mod HiddenLaws
+mod HintLaws
+mod OnceLaws
+mod PlaceLaws
+mod OpenLaws
+mod ReadLaws
+mod SeenLaws
+mod SuspectLaws
+mod TellLaws
+mod WarningLaws
+mod WrongLaws
+mod NotedLaws
+pub mod ReportLaws

@@ -1,0 +1,12 @@
+use Rattle.std.proofs.Common.{◌≡◌, ◌++◌, List}
+use Rattle.psg_recover.specs.declared.finding.Finding.{Finding}
+use Rattle.psg_recover.specs.Spotted.{IsSpotsOf}
+use Rattle.psg_recover.specs.TextPlaces.{Read}
+use Rattle.psg_lint.specs.Judged.{def_of, fresh_of, tree_in}
+use Rattle.psg_lint.proofs.SuspectLaws.{SuspectedTo}
+use Rattle.psg_lint.proofs.suspects.tell_suspects.Given as goal
+
+abbrev pub invariant-loop-number : goal.invariant-loop-number
+invariant-loop-number g l = (r : Read) → IsSpotsOf l.wrong.judged.spots r → (told : List Finding)
+    × (l.found.items ≡ l.fn.found.items ++ told)
+    × SuspectedTo (def_of l.wrong) (tree_in l.wrong) r (fresh_of l.wrong) l.wrong.kept.now l.wrong.places.now l.number told

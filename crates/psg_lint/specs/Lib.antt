@@ -1,0 +1,12 @@
+pub mod Judged
+pub mod Blamed
+pub mod Hints
+pub mod Suspects
+pub mod OpenPlaces
+pub mod Warnings
+pub mod Wrongs
+pub mod Reports
+pub mod Shown
+pub mod Lists
+pub mod Opens
+pub mod Linted
