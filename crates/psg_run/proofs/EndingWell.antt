@@ -1,6 +1,6 @@
 -- A run for which nothing goes wrong outside ends well.
 use Rattle.std.proofs.Common.{◌≡◌, inl, inr, ℕ, ◌<◌, ◌≤◌, ◌⊎◌, Bool, true, false, List, [], ◌∷◌, ◌++◌, length, slice_get, Option, Some, IfSome, refl}
-use Rattle.std.proofs.Common.{sym, ◌∙◌, ap, subst, arith}
+use Rattle.std.proofs.Common.{cond, sym, ◌∙◌, ap, subst, arith}
 use Rattle.std.specs.Prelude.{codes}
 use Rattle.psg_terms.specs.Names.{Name}
 use Rattle.psg_grammar.specs.declared.types.Definition.{Definition}
@@ -31,9 +31,10 @@ use Rattle.psg_run.specs.Formatting.{no_room_for_program, tells_program}
 use Rattle.psg_run.specs.Framed.{framed_text}
 use Rattle.psg_run.specs.Generated.{Generates, no_room_to_tell, tells}
 use Rattle.psg_run.specs.Live.{EndsInput, IsRepliedLiveBy, Talks, TalksBy, is_at_end, is_unread_line, no_room_for_line}
-use Rattle.psg_run.specs.Outputs.{EndsWell, HasDefinition, HasLayout, HasProgram, IsRight, IsShort, WasRead}
+use Rattle.psg_run.specs.Linting.{IsLint, Lints, TellsLint, ending, no_room_for_lint, tells_lint}
+use Rattle.psg_run.specs.Outputs.{EndsWell, HasDefinition, HasFaultless, HasLayout, HasProgram, IsFaultless, IsRight, IsShort, WasRead}
 use Rattle.psg_run.specs.Promise.{check, edit, framed, live, windows, gen, layout, itself, format, check_format}
-use Rattle.psg_run.specs.Promise.{explain}
+use Rattle.psg_run.specs.Promise.{explain, lint}
 use Rattle.psg_run.specs.Reading.{Defines, IsAccepted, IsRefusalLine, Reads, is_accepted, is_long, is_read, is_refused}
 use Rattle.psg_run.specs.Reading.{is_unread, most_definition_bytes, most_script_bytes, no_definition}
 use Rattle.psg_run.specs.Reading.{no_room_for_definition, no_room_for_file, not_accepted}
@@ -276,6 +277,32 @@ module _ (old new : World) (sink : HasRisen old.count new.count → ⊥) where
       puts_well (told_well def name program bytes checks right kind named text end told) sink puts
   tells_well def name program bytes checks right kind named status (no_room_for_program ticks counted same) = inr refl
 
+  lint_told_well : (def : Definition) (name program : Name) (bytes : List ℕ) → IsFaultless def name bytes
+      → (kind : Kind) → kind_name_of def kind ≡ Some name → (text : List ℕ) (done : Status)
+      → IsLint def program kind bytes text done → IsWell done
+  lint_told_well def name program bytes right kind named text end told =
+      inl (told.done_is ∙ ap (λ (b : Bool). cond b ends_with.Wrong ends_with.Done)
+      (right.faultless kind named told.text told.limited told.found told.more told.report))
+
+  tells_lint_well : (def : Definition) (name program : Name) (bytes : List ℕ) → IsFaultless def name bytes
+      → (kind : Kind) → kind_name_of def kind ≡ Some name → (status : Status)
+      → TellsLint def program kind bytes old new status → IsWell status
+  tells_lint_well def name program bytes right kind named status (tells_lint ticks text end told puts) =
+      puts_well (lint_told_well def name program bytes right kind named text end told) sink puts
+  tells_lint_well def name program bytes right kind named status (no_room_for_lint ticks same) = inr refl
+
+  lints_well : (definition name program : Name) (def : Definition) (has : HasFaultless old definition name program)
+      → IsAccepted (bytes_of has.held definition) def → WasRead old new program → (status : Status)
+      → Lints def name program old new status → IsWell status
+  lints_well definition name program def has accepted was status (is_kind kind named quiet on) =
+      reads_well has.held program most_program_bytes (TellsLint def program kind) status has.known has.short was
+      (λ ended told. tells_lint_well def name program (bytes_of has.held program) (has.right def accepted) kind named
+      ended told) on
+  lints_well definition name program def has accepted was status (is_unknown none puts) =
+      absurd ((has.right def accepted).some_kind none)
+  lints_well definition name program def has accepted was status (is_declaring kind named declares puts) =
+      absurd ((has.right def accepted).quiet kind named declares)
+
   formats_well : (checks : Bool) (definition name program : Name) (def : Definition)
       (has : HasProgram old definition name program checks) → IsAccepted (bytes_of has.held definition) def
       → WasRead old new program → (status : Status) → Formats checks def name program old new status → IsWell status
@@ -324,6 +351,18 @@ module _ (old new : World) (sink : HasRisen old.count new.count → ⊥) where
   formatted_well checks d k p has program was status (is_refused line refusal puts) =
       absurd (not_refused (bytes_of has.held d) line has.def has.accepted refusal)
   formatted_well checks d k p has program was status (no_room_for_definition same) = inr refl
+
+  -- the definition is one, and the program's file is read
+  linted_well : (d k p : Name) (has : HasDefinition old d) (program : HasFaultless old d k p) → WasRead old new p
+      → (status : Status) → Defines (bytes_of has.held d) (λ def. Lints def k p) old new status → IsWell status
+  linted_well d k p has program was status (is_accepted def accepted on) =
+      let here : IsAccepted (bytes_of program.held d) def =
+      subst (λ (h : Held). IsAccepted (bytes_of h d) def)
+      (one_held old.files.held has.held program.held has.known program.known) accepted in
+      lints_well old new sink d k p def program here was status on
+  linted_well d k p has program was status (is_refused line refusal puts) =
+      absurd (not_refused (bytes_of has.held d) line has.def has.accepted refusal)
+  linted_well d k p has program was status (no_room_for_definition same) = inr refl
 
   -- the language is that of definitions, the script's file is read, and the lines are played
   self_well : (s file : Name) (def : Definition) → IsAccepted SELF.now def → IsSelf def → IsShort old s most_script_bytes
@@ -376,3 +415,6 @@ has_ended_well (format d k p) old new status run (has, was, program, was_program
 has_ended_well (check_format d k p) old new status run (has, was, program, was_program, sink) =
     reads_well old new sink has.held d most_definition_bytes (λ bytes. Defines bytes (λ def. Formats true def k p)) status
     has.known has.short was (λ ended on. formatted_well old new sink true d k p has program was_program ended on) run
+has_ended_well (lint d k p) old new status run (has, was, program, was_program, sink) =
+    reads_well old new sink has.held d most_definition_bytes (λ bytes. Defines bytes (λ def. Lints def k p)) status
+    has.known has.short was (λ ended on. linted_well old new sink d k p has program was_program ended on) run

@@ -11,7 +11,7 @@ use Rattle.psg_run.specs.declared.status.Status.TheVariants as ends_with
 use Rattle.psg_run.specs.Wanted.{formatting, living}
 use Rattle.psg_run.specs.Worlds.{World, texts_of}
 use Rattle.psg_run.specs.Arranging.{most_columns}
-use Rattle.psg_run.specs.Promise.{Form, check, edit, framed, live, windows, gen, layout, itself, format, check_format, explain, HasNoForm, IsForm, IsRunOf, IsRun}
+use Rattle.psg_run.specs.Promise.{Form, check, edit, framed, live, windows, gen, layout, itself, format, check_format, lint, explain, HasNoForm, IsForm, IsRunOf, IsRun}
 
 pub two_words : (words : List (String Global)) (a b : String Global) → 2 ≤ length words → length words < 3 → a ≡ get_or words 0 a → b ≡ get_or words 1 b
     → texts_of words ≡ string_bytes a ∷ string_bytes b ∷ []
@@ -79,6 +79,7 @@ two_other a b no_check no_live no_gen (gen n) (e, low, high) = no_gen cc
 two_other a b no_check no_live no_gen (layout d s l n) (e, low, high) = cc
 two_other a b no_check no_live no_gen (itself s f) e = cc
 two_other a b no_check no_live no_gen (format d k f) e = cc
+two_other a b no_check no_live no_gen (lint d k f) e = cc
 two_other a b no_check no_live no_gen (check_format d k f) e = cc
 two_other a b no_check no_live no_gen (explain d s) e = cc
 
@@ -93,6 +94,7 @@ no_number a b is never (gen n) (e, low, high) = never n ((omega (arith, high), s
 no_number a b is never (layout d s l n) (e, low, high) = cc
 no_number a b is never (itself s f) e = cc
 no_number a b is never (format d k f) e = cc
+no_number a b is never (lint d k f) e = cc
 no_number a b is never (check_format d k f) e = cc
 no_number a b is never (explain d s) e = cc
 
@@ -112,20 +114,22 @@ three_other a b c no_edit no_windows no_self no_explain no_live (layout d s l n)
 three_other a b c no_edit no_windows no_self no_explain no_live (itself s f) e = no_self cc
 three_other a b c no_edit no_windows no_self no_explain no_live (explain d s) e = no_explain cc
 three_other a b c no_edit no_windows no_self no_explain no_live (format d k f) e = cc
+three_other a b c no_edit no_windows no_self no_explain no_live (lint d k f) e = cc
 three_other a b c no_edit no_windows no_self no_explain no_live (check_format d k f) e = cc
 
-pub four_other : (a b c d : Name) → (a ≡ codes "format" → ⊥) → HasNoForm (a ∷ b ∷ c ∷ d ∷ [])
-four_other a b c d no_format (check x) e = cc
-four_other a b c d no_format (edit x y) e = cc
-four_other a b c d no_format (live x) e = cc
-four_other a b c d no_format (framed x) e = cc
-four_other a b c d no_format (windows x y) e = cc
-four_other a b c d no_format (gen n) (e, low, high) = cc
-four_other a b c d no_format (layout x y z n) (e, low, high) = cc
-four_other a b c d no_format (itself x y) e = cc
-four_other a b c d no_format (explain x y) e = cc
-four_other a b c d no_format (format x k f) e = no_format cc
-four_other a b c d no_format (check_format x k f) e = cc
+pub four_other : (a b c d : Name) → (a ≡ codes "format" → ⊥) → (a ≡ codes "lint" → ⊥) → HasNoForm (a ∷ b ∷ c ∷ d ∷ [])
+four_other a b c d no_format no_lint (check x) e = cc
+four_other a b c d no_format no_lint (edit x y) e = cc
+four_other a b c d no_format no_lint (live x) e = cc
+four_other a b c d no_format no_lint (framed x) e = cc
+four_other a b c d no_format no_lint (windows x y) e = cc
+four_other a b c d no_format no_lint (gen n) (e, low, high) = cc
+four_other a b c d no_format no_lint (layout x y z n) (e, low, high) = cc
+four_other a b c d no_format no_lint (itself x y) e = cc
+four_other a b c d no_format no_lint (explain x y) e = cc
+four_other a b c d no_format no_lint (format x k f) e = no_format cc
+four_other a b c d no_format no_lint (lint x k f) e = no_lint cc
+four_other a b c d no_format no_lint (check_format x k f) e = cc
 
 -- five words of which the first is another one
 pub five_other : (a b c d e : Name) → (a ≡ codes "layout" → ⊥) → (a ≡ codes "format" → ⊥)
@@ -140,6 +144,7 @@ five_other a b c d e no_layout no_format (layout x y z n) (p, low, high) = no_la
 five_other a b c d e no_layout no_format (itself x y) p = cc
 five_other a b c d e no_layout no_format (explain x y) p = cc
 five_other a b c d e no_layout no_format (format x k f) p = cc
+five_other a b c d e no_layout no_format (lint x k f) p = cc
 five_other a b c d e no_layout no_format (check_format x k f) p = no_format cc
 
 not_layout : codes "format" ≡ codes "layout" → ⊥
@@ -160,6 +165,7 @@ no_columns a b c d e is never (layout x y z n) (p, low, high) =
 no_columns a b c d e is never (itself x y) p = cc
 no_columns a b c d e is never (explain x y) p = cc
 no_columns a b c d e is never (format x k f) p = cc
+no_columns a b c d e is never (lint x k f) p = cc
 no_columns a b c d e is never (check_format x k f) p = let first : a ≡ codes "format" = cc in not_layout (sym first ∙ is)
 
 not_live_edit : codes "live" ≡ codes "edit" → ⊥
@@ -185,6 +191,7 @@ no_frames a b c is never (gen n) (e, low, high) = cc
 no_frames a b c is never (layout d s l n) (e, low, high) = cc
 no_frames a b c is never (itself s f) e = let first : a ≡ codes "self" = cc in not_live_self (sym is ∙ first)
 no_frames a b c is never (format d k f) e = cc
+no_frames a b c is never (lint d k f) e = cc
 no_frames a b c is never (check_format d k f) e = cc
 no_frames a b c is never (explain d s) e = let first : a ≡ codes "explain" = cc in not_live_explain (sym is ∙ first)
 
@@ -204,6 +211,7 @@ no_check a b c d e is never (layout x y z n) (p, low, high) = let first : a ≡ 
 no_check a b c d e is never (itself x y) p = cc
 no_check a b c d e is never (explain x y) p = cc
 no_check a b c d e is never (format x k f) p = cc
+no_check a b c d e is never (lint x k f) p = cc
 no_check a b c d e is never (check_format x k f) p = never cc
 
 -- `format` and `--check`
@@ -229,6 +237,7 @@ other_count [] two three four five (layout d s l n) (e, low, high) = cc
 other_count [] two three four five (itself s f) e = cc
 other_count [] two three four five (explain d s) e = cc
 other_count [] two three four five (format d k f) e = cc
+other_count [] two three four five (lint d k f) e = cc
 other_count [] two three four five (check_format d k f) e = cc
 other_count (x ∷ []) two three four five (check d) e = cc
 other_count (x ∷ []) two three four five (edit d s) e = cc
@@ -240,6 +249,7 @@ other_count (x ∷ []) two three four five (layout d s l n) (e, low, high) = cc
 other_count (x ∷ []) two three four five (itself s f) e = cc
 other_count (x ∷ []) two three four five (explain d s) e = cc
 other_count (x ∷ []) two three four five (format d k f) e = cc
+other_count (x ∷ []) two three four five (lint d k f) e = cc
 other_count (x ∷ []) two three four five (check_format d k f) e = cc
 other_count (x ∷ y ∷ []) two three four five form e = absurd (two refl)
 other_count (x ∷ y ∷ z ∷ []) two three four five form e = absurd (three refl)
@@ -255,6 +265,7 @@ other_count (x ∷ y ∷ z ∷ w ∷ v ∷ u ∷ more) two three four five (layo
 other_count (x ∷ y ∷ z ∷ w ∷ v ∷ u ∷ more) two three four five (itself s f) e = cc
 other_count (x ∷ y ∷ z ∷ w ∷ v ∷ u ∷ more) two three four five (explain d s) e = cc
 other_count (x ∷ y ∷ z ∷ w ∷ v ∷ u ∷ more) two three four five (format d k f) e = cc
+other_count (x ∷ y ∷ z ∷ w ∷ v ∷ u ∷ more) two three four five (lint d k f) e = cc
 other_count (x ∷ y ∷ z ∷ w ∷ v ∷ u ∷ more) two three four five (check_format d k f) e = cc
 
 -- ---- runs
@@ -291,6 +302,13 @@ not_explain_windows e = true≢false (ap (λ w. bytes_eq w (codes "windows")) e)
 
 not_explain_self : codes "self" ≡ codes "explain" → ⊥
 not_explain_self e = true≢false (ap (λ w. bytes_eq w (codes "self")) e)
+
+not_lint : codes "format" ≡ codes "lint" → ⊥
+not_lint e = true≢false (ap (λ w. bytes_eq w (codes "format")) e)
+
+format_is : (d m f x k y : Name) → codes "format" ∷ d ∷ m ∷ f ∷ [] ≡ codes "lint" ∷ x ∷ k ∷ y ∷ []
+    → codes "format" ≡ codes "lint"
+format_is d m f x k y whole = cc
 
 one_form : (words : List Name) (a b : Form) → IsForm words a → IsForm words b → a ≡ b
 one_form words (check d) (check e) p q = let whole : codes "check" ∷ d ∷ [] ≡ codes "check" ∷ e ∷ [] = sym p ∙ q in cc
@@ -426,6 +444,29 @@ one_form words (check_format d m f) (format x k y) p q = let whole : codes "form
 one_form words (format d m f) (format x k y) p q = let whole : codes "format" ∷ d ∷ m ∷ f ∷ [] ≡ codes "format" ∷ x ∷ k ∷ y ∷ [] = sym p ∙ q in cc
 one_form words (check_format d m f) (check_format x k y) p q =
     let whole : codes "format" ∷ d ∷ m ∷ f ∷ codes "--check" ∷ [] ≡ codes "format" ∷ x ∷ k ∷ y ∷ codes "--check" ∷ [] = sym p ∙ q in cc
+one_form words (check d) (lint x k y) p q = let whole : codes "check" ∷ d ∷ [] ≡ codes "lint" ∷ x ∷ k ∷ y ∷ [] = sym p ∙ q in cc
+one_form words (lint x k y) (check d) p q = let whole : codes "lint" ∷ x ∷ k ∷ y ∷ [] ≡ codes "check" ∷ d ∷ [] = sym p ∙ q in cc
+one_form words (edit d s) (lint x k y) p q = let whole : codes "edit" ∷ d ∷ s ∷ [] ≡ codes "lint" ∷ x ∷ k ∷ y ∷ [] = sym p ∙ q in cc
+one_form words (lint x k y) (edit d s) p q = let whole : codes "lint" ∷ x ∷ k ∷ y ∷ [] ≡ codes "edit" ∷ d ∷ s ∷ [] = sym p ∙ q in cc
+one_form words (live d) (lint x k y) p q = let whole : codes "live" ∷ d ∷ [] ≡ codes "lint" ∷ x ∷ k ∷ y ∷ [] = sym p ∙ q in cc
+one_form words (lint x k y) (live d) p q = let whole : codes "lint" ∷ x ∷ k ∷ y ∷ [] ≡ codes "live" ∷ d ∷ [] = sym p ∙ q in cc
+one_form words (framed d) (lint x k y) p q = let whole : codes "live" ∷ codes "--framed" ∷ d ∷ [] ≡ codes "lint" ∷ x ∷ k ∷ y ∷ [] = sym p ∙ q in cc
+one_form words (lint x k y) (framed d) p q = let whole : codes "lint" ∷ x ∷ k ∷ y ∷ [] ≡ codes "live" ∷ codes "--framed" ∷ d ∷ [] = sym p ∙ q in cc
+one_form words (windows d s) (lint x k y) p q = let whole : codes "windows" ∷ d ∷ s ∷ [] ≡ codes "lint" ∷ x ∷ k ∷ y ∷ [] = sym p ∙ q in cc
+one_form words (lint x k y) (windows d s) p q = let whole : codes "lint" ∷ x ∷ k ∷ y ∷ [] ≡ codes "windows" ∷ d ∷ s ∷ [] = sym p ∙ q in cc
+one_form words (gen n) (lint x k y) (p, low, high) q = let whole : codes "gen" ∷ decimal n ∷ [] ≡ codes "lint" ∷ x ∷ k ∷ y ∷ [] = sym p ∙ q in cc
+one_form words (lint x k y) (gen n) p (q, low, high) = let whole : codes "lint" ∷ x ∷ k ∷ y ∷ [] ≡ codes "gen" ∷ decimal n ∷ [] = sym p ∙ q in cc
+one_form words (layout d s l n) (lint x k y) (p, low, high) q = let whole : codes "layout" ∷ d ∷ s ∷ l ∷ decimal n ∷ [] ≡ codes "lint" ∷ x ∷ k ∷ y ∷ [] = sym p ∙ q in cc
+one_form words (lint x k y) (layout d s l n) p (q, low, high) = let whole : codes "lint" ∷ x ∷ k ∷ y ∷ [] ≡ codes "layout" ∷ d ∷ s ∷ l ∷ decimal n ∷ [] = sym p ∙ q in cc
+one_form words (itself s f) (lint x k y) p q = let whole : codes "self" ∷ s ∷ f ∷ [] ≡ codes "lint" ∷ x ∷ k ∷ y ∷ [] = sym p ∙ q in cc
+one_form words (lint x k y) (itself s f) p q = let whole : codes "lint" ∷ x ∷ k ∷ y ∷ [] ≡ codes "self" ∷ s ∷ f ∷ [] = sym p ∙ q in cc
+one_form words (explain d s) (lint x k y) p q = let whole : codes "explain" ∷ d ∷ s ∷ [] ≡ codes "lint" ∷ x ∷ k ∷ y ∷ [] = sym p ∙ q in cc
+one_form words (lint x k y) (explain d s) p q = let whole : codes "lint" ∷ x ∷ k ∷ y ∷ [] ≡ codes "explain" ∷ d ∷ s ∷ [] = sym p ∙ q in cc
+one_form words (check_format d m f) (lint x k y) p q = let whole : codes "format" ∷ d ∷ m ∷ f ∷ codes "--check" ∷ [] ≡ codes "lint" ∷ x ∷ k ∷ y ∷ [] = sym p ∙ q in cc
+one_form words (lint x k y) (check_format d m f) p q = let whole : codes "lint" ∷ x ∷ k ∷ y ∷ [] ≡ codes "format" ∷ d ∷ m ∷ f ∷ codes "--check" ∷ [] = sym p ∙ q in cc
+one_form words (format d m f) (lint x k y) p q = absurd (not_lint (format_is d m f x k y (sym p ∙ q)))
+one_form words (lint x k y) (format d m f) p q = absurd (not_lint (format_is d m f x k y (sym q ∙ p)))
+one_form words (lint d m f) (lint x k y) p q = let whole : codes "lint" ∷ d ∷ m ∷ f ∷ [] ≡ codes "lint" ∷ x ∷ k ∷ y ∷ [] = sym p ∙ q in cc
 
 module _ (words : List Name) (old new : World) (status : Status) where
   of_form : (form : Form) → IsForm words form → IsRunOf form old new status → IsRun words old new status
@@ -467,6 +508,10 @@ module _ (words : List Name) (old new : World) (status : Status) where
   pub of_explain : (definition script : Name) → words ≡ codes "explain" ∷ definition ∷ script ∷ [] → IsRunOf (explain definition script) old new status
       → IsRun words old new status
   of_explain definition script is ran = of_form (explain definition script) is ran
+
+  pub of_lint : (definition kind program : Name) → words ≡ codes "lint" ∷ definition ∷ kind ∷ program ∷ []
+      → IsRunOf (lint definition kind program) old new status → IsRun words old new status
+  of_lint definition kind program is ran = of_form (lint definition kind program) is ran
 
   -- words of a form are not of none
   pub has_form : (form : Form) → IsForm words form → HasNoForm words → ⊥

@@ -11,8 +11,11 @@ use Rattle.psg_grammar.specs.Kinds.{kind_name_of}
 use Rattle.psg_langs.specs.declared.named.TheConstants.{MINI, SELF}
 use Rattle.psg_layout.specs.declared.layout.Layout.{Layout}
 use Rattle.psg_layout.specs.Layouts.{LayoutRefusal}
+use Rattle.psg_lint.specs.Reports.{IsReport}
 use Rattle.psg_program.specs.Formatted.{formatted}
 use Rattle.psg_program.specs.Programs.{IsFaulty, IsProgram}
+use Rattle.psg_recover.specs.declared.finding.Finding.{Finding}
+use Rattle.psg_recover.specs.Findings.{has_error}
 use Rattle.psg_self.specs.SelfLanguage.{IsSelf}
 use Rattle.psg_specimen.specs.Languages.{IsDeclaringPhylum}
 use Rattle.psg_unparse.specs.Spaced.{Put, SpacedReadsBack, text_in}
@@ -32,7 +35,7 @@ use Rattle.psg_run.specs.Editing.{Editor, IsReplied, new_editor}
 use Rattle.psg_run.specs.Live.{IsRepliedLive, heard, with_input}
 use Rattle.psg_run.specs.Formatting.{most_program_bytes}
 use Rattle.psg_run.specs.Promise.{Form, IsRunOf, check, edit, live, windows, gen, layout, itself, format, check_format}
-use Rattle.psg_run.specs.Promise.{explain, framed}
+use Rattle.psg_run.specs.Promise.{explain, framed, lint}
 use Rattle.psg_run.specs.Reading.{IsAccepted, most_definition_bytes, most_script_bytes}
 use Rattle.psg_run.specs.Worlds.{IsFrontOf, World, with_failed_read}
 
@@ -179,6 +182,21 @@ pub record HasProgram (world : World) (definition name program : Name) (checks :
   pub right : (def : Definition) → IsAccepted (bytes_of held definition) def
       → IsRight def name (bytes_of held program) checks
 
+-- The name is that of a kind of which a program may be, and no report of the bytes has an error.
+pub record IsFaultless (def : Definition) (name : Name) (bytes : List ℕ) : Type 0 where
+  pub some_kind : ((kind : Kind) → kind_name_of def kind ≡ Some name → ⊥) → ⊥
+  pub quiet : (kind : Kind) → kind_name_of def kind ≡ Some name → IsDeclaringPhylum def kind → ⊥
+  pub faultless : (kind : Kind) → kind_name_of def kind ≡ Some name → (text : List ℕ) (limited : Bool)
+      (found : List Finding) (more : Bool) → IsReport def kind bytes text limited found more → has_error found ≡ false
+
+-- the file of a program is known, short enough, and without errors for the definition that the other file holds
+pub record HasFaultless (world : World) (definition name program : Name) : Type 0 where
+  pub held : Held
+  pub known : world.files.held ≡ Some held
+  pub short : length (bytes_of held program) ≤ most_program_bytes
+  pub right : (def : Definition) → IsAccepted (bytes_of held definition) def
+      → IsFaultless def name (bytes_of held program)
+
 -- The run did not end at its own read of the file. A read by a command may fail.
 abbrev pub WasRead : World → World → Name → Type 0
 WasRead old new file = new ≡ with_failed_read old file → ⊥
@@ -189,7 +207,8 @@ ScriptGoesWell old new definition script =
     HasDefinition old definition × WasRead old new definition × IsShort old script most_script_bytes
     × WasRead old new script
 
--- The definition is accepted, the files are short, a layout has no fault, a program is right, the run's own reads of them
+-- The definition is accepted, the files are short, a layout has no fault, a program is right or no error is found in it, the
+-- run's own reads of them
 -- and of the input did not fail, and the sink's count has not risen.
 abbrev pub GoesWell : Form → World → World → Type 0
 GoesWell (check d) old new = HasDefinition old d × WasRead old new d × (HasRisen old.count new.count → ⊥)
@@ -213,6 +232,9 @@ GoesWell (format d k p) old new =
     × (HasRisen old.count new.count → ⊥)
 GoesWell (check_format d k p) old new =
     HasDefinition old d × WasRead old new d × HasProgram old d k p true × WasRead old new p
+    × (HasRisen old.count new.count → ⊥)
+GoesWell (lint d k p) old new =
+    HasDefinition old d × WasRead old new d × HasFaultless old d k p × WasRead old new p
     × (HasRisen old.count new.count → ⊥)
 GoesWell (explain d s) old new = ScriptGoesWell old new d s × (HasRisen old.count new.count → ⊥)
 

@@ -14,6 +14,7 @@ use Rattle.psg_run.specs.Editing.{Edits}
 use Rattle.psg_run.specs.Explaining.{Explains}
 use Rattle.psg_run.specs.Exporting.{Exports, GoesOnAsSelf}
 use Rattle.psg_run.specs.Formatting.{Formats}
+use Rattle.psg_run.specs.Linting.{Lints}
 use Rattle.psg_run.specs.Generated.{Generates}
 use Rattle.psg_run.specs.Framed.{framed_text}
 use Rattle.psg_run.specs.Live.{Talks, TalksBy}
@@ -35,6 +36,7 @@ pub data Form : Type 0 where
   itself : (script file : Name) → Form
   format : (definition kind program : Name) → Form
   check_format : (definition kind program : Name) → Form
+  lint : (definition kind program : Name) → Form
   explain : (definition script : Name) → Form
 
 -- the words after the program's name have this form
@@ -52,6 +54,7 @@ IsForm words (itself script file) = words ≡ codes "self" ∷ script ∷ file �
 IsForm words (format definition kind program) = words ≡ codes "format" ∷ definition ∷ kind ∷ program ∷ []
 IsForm words (check_format definition kind program) =
     words ≡ codes "format" ∷ definition ∷ kind ∷ program ∷ codes "--check" ∷ []
+IsForm words (lint definition kind program) = words ≡ codes "lint" ∷ definition ∷ kind ∷ program ∷ []
 IsForm words (explain definition script) = words ≡ codes "explain" ∷ definition ∷ script ∷ []
 
 -- the words have none of the forms
@@ -76,6 +79,7 @@ IsRunOf (itself script file) =
     (λ def. GoesOnAsSelf def (Reads script most_script_bytes (λ bytes. Exports def file (script_lines bytes))))
 IsRunOf (format definition kind program) = OnDefinition definition (λ def. Formats false def kind program)
 IsRunOf (check_format definition kind program) = OnDefinition definition (λ def. Formats true def kind program)
+IsRunOf (lint definition kind program) = OnDefinition definition (λ def. Lints def kind program)
 IsRunOf (explain definition script) =
     OnDefinition definition (λ def. Reads script most_script_bytes (λ bytes. Explains def (script_lines bytes)))
 

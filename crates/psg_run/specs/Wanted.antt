@@ -4,9 +4,9 @@ use Rattle.psg_terms.specs.Names.{Name}
 use Rattle.psg_run.specs.declared.framing.Framing.{Framing}
 use Rattle.psg_run.specs.declared.framing.Framing.TheVariants as framings
 use Rattle.psg_run.specs.declared.words.Form.{Form as Found}
-use Rattle.psg_run.specs.declared.words.Form.TheVariants.{Check, Edit, Live, Windows, Gen, Layout, Itself, Format}
+use Rattle.psg_run.specs.declared.words.Form.TheVariants.{Check, Edit, Live, Windows, Gen, Layout, Itself, Format, Lint}
 use Rattle.psg_run.specs.declared.words.Form.TheVariants.{Explain}
-use Rattle.psg_run.specs.Promise.{Form, IsForm, check, edit, live, windows, gen, layout, itself, format, check_format}
+use Rattle.psg_run.specs.Promise.{Form, IsForm, check, edit, live, windows, gen, layout, itself, format, check_format, lint}
 use Rattle.psg_run.specs.Promise.{explain, framed}
 
 -- `format`, with the word `--check` or without
@@ -29,6 +29,7 @@ form_told (Gen number) = gen number
 form_told (Layout definition script rules columns) = layout definition.now script.now rules.now columns
 form_told (Itself script file) = itself script.now file.now
 form_told (Format definition kind program checks) = formatting checks definition.now kind.now program.now
+form_told (Lint definition kind program) = lint definition.now kind.now program.now
 form_told (Explain definition script) = explain definition.now script.now
 
 -- what was found is the form that the words have

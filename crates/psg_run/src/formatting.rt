@@ -31,7 +31,7 @@ use std::sync::ledger::Ledger;
 
 /// Returns the phylum or list of the name. Where there is none, or it is a phylum that declares, the line of the refusal
 /// is put, and the status says how that ended.
-fn kind_of<O: Sink>(
+pub(crate) fn kind_of<O: Sink>(
     alloc: Global,
     language: &Language,
     name: &str,
@@ -164,7 +164,7 @@ fn told_of<L: Ledger>(
 }
 
 /// Puts the text, and returns `done` where it was put whole.
-fn put_text<O: Sink>(alloc: Global, out: &mut O, text: &str, done: Status) -> Status
+pub(crate) fn put_text<O: Sink>(alloc: Global, out: &mut O, text: &str, done: Status) -> Status
     ensures { (files : Outside) (input : Incoming) (ticks : ℕ) → Puts text.now done
         (seen files.held files.entries input ticks (O.written out.old) (O.faults out.old))
         (seen files.held files.entries input ticks (O.written out.new) (O.faults out.new)) result }

@@ -20,6 +20,7 @@ mod generating;
 pub mod laws;
 pub mod limits;
 mod lines;
+mod linting;
 mod live;
 mod paths;
 mod play;

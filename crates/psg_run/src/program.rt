@@ -14,6 +14,7 @@ use crate::arranging::arrange_by;
 use crate::explaining::explain_script;
 use crate::exporting::export_self;
 use crate::formatting::format_file;
+use crate::linting::lint_file;
 use crate::framing::Framing;
 use crate::generating::generate;
 use crate::limits::MOST_SCRIPT_BYTES;
@@ -288,6 +289,13 @@ pub fn run<F: Files, I: Input, O: Sink, L: Ledger>(
                 checks,
             },
         ) => { format_file(alloc, definition, kind, program, checks, files, out, steps) }
+        Some(
+            Form::Lint {
+                definition,
+                kind,
+                program,
+            },
+        ) => { lint_file(alloc, definition, kind, program, files, out, steps) }
         Some(Form::Explain { definition, script }) => {
             explain_script(alloc, definition, script, files, out, steps)
         }

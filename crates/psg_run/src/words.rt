@@ -47,6 +47,12 @@ pub enum Form<'a> {
         script: &'a str,
         file: &'a str,
     },
+    /// `lint DEF KIND FILE`
+    Lint {
+        definition: &'a str,
+        kind: &'a str,
+        program: &'a str,
+    },
     /// `format DEF KIND FILE`, and where it only checks `format DEF KIND FILE --check`
     Format {
         definition: &'a str,
@@ -150,6 +156,12 @@ fn of_four<'a>(form: &str, definition: &'a str, kind: &'a str, program: &'a str)
             kind,
             program,
             checks: false,
+        })
+    } else if form == "lint" {
+        Some(Form::Lint {
+            definition,
+            kind,
+            program,
         })
     } else {
         None

@@ -1,9 +1,9 @@
 use Rattle.std.proofs.Common.{◌≡◌, [], ◌∷◌}
 use Rattle.std.specs.Prelude.{codes}
-use Rattle.psg_run.specs.Promise.{check, edit, explain, gen, itself, layout, windows}
+use Rattle.psg_run.specs.Promise.{check, edit, explain, gen, itself, layout, lint, windows}
 use Rattle.psg_run.specs.Wanted.{formatting, living}
 use Rattle.psg_run.specs.Worlds.{coming, seen, texts_of}
-use Rattle.psg_run.proofs.WordForms.{has_form, of_check, of_edit, of_explain, of_format, of_gen, of_itself, of_layout, of_live, of_windows}
+use Rattle.psg_run.proofs.WordForms.{has_form, of_check, of_edit, of_explain, of_format, of_gen, of_itself, of_layout, of_lint, of_live, of_windows}
 use Rattle.psg_run.proofs.program.run.Goals as goal
 
 pub returns-in-Some-Check : goal.returns-in-Some-Check
@@ -100,4 +100,14 @@ returns-in-Some-Explain g c =
           (seen (g.F.Files.holds c.explain_script.new.files) (g.F.Files.faults c.explain_script.new.files) (coming (g.I.Input.lines c.args.input.now) (g.I.Input.given c.args.input.now) (g.I.Input.missed c.args.input.now)) c.explain_script.new.steps (g.O.Sink.written c.explain_script.new.out) (g.O.Sink.faults c.explain_script.new.out))
           c.explain_script.result c.in-Some-Explain.definition.now c.in-Some-Explain.script.now wanted (c.explain_script.ensures (coming (g.I.Input.lines c.args.input.now) (g.I.Input.given c.args.input.now) (g.I.Input.missed c.args.input.now)));
       untouched = λ none. absurd (has_form (texts_of c.args.words.now) (seen (g.F.Files.holds c.args.files.now) (g.F.Files.faults c.args.files.now) (coming (g.I.Input.lines c.args.input.now) (g.I.Input.given c.args.input.now) (g.I.Input.missed c.args.input.now)) c.args.steps.now (g.O.Sink.written c.args.out.now) (g.O.Sink.faults c.args.out.now)) (seen (g.F.Files.holds c.args.files.now) (g.F.Files.faults c.args.files.now) (coming (g.I.Input.lines c.args.input.now) (g.I.Input.given c.args.input.now) (g.I.Input.missed c.args.input.now)) c.args.steps.now (g.O.Sink.written c.args.out.now) (g.O.Sink.faults c.args.out.now)) c.explain_script.result (explain c.in-Some-Explain.definition.now c.in-Some-Explain.script.now) wanted none);
+    }
+
+pub returns-in-Some-Lint : goal.returns-in-Some-Lint
+returns-in-Some-Lint g c =
+    let wanted : texts_of c.args.words.now ≡ codes "lint" ∷ c.in-Some-Lint.definition.now ∷ c.in-Some-Lint.kind.now ∷ c.in-Some-Lint.program.now ∷ [] = rw c.in-Some-Lint.field-0-is at c.in-Some-Lint.ensures in
+    record {
+      run = of_lint (texts_of c.args.words.now) (seen (g.F.Files.holds c.args.files.now) (g.F.Files.faults c.args.files.now) (coming (g.I.Input.lines c.args.input.now) (g.I.Input.given c.args.input.now) (g.I.Input.missed c.args.input.now)) c.args.steps.now (g.O.Sink.written c.args.out.now) (g.O.Sink.faults c.args.out.now))
+          (seen (g.F.Files.holds c.lint_file.new.files) (g.F.Files.faults c.lint_file.new.files) (coming (g.I.Input.lines c.args.input.now) (g.I.Input.given c.args.input.now) (g.I.Input.missed c.args.input.now)) c.lint_file.new.steps (g.O.Sink.written c.lint_file.new.out) (g.O.Sink.faults c.lint_file.new.out))
+          c.lint_file.result c.in-Some-Lint.definition.now c.in-Some-Lint.kind.now c.in-Some-Lint.program.now wanted (c.lint_file.ensures (coming (g.I.Input.lines c.args.input.now) (g.I.Input.given c.args.input.now) (g.I.Input.missed c.args.input.now)));
+      untouched = λ none. absurd (has_form (texts_of c.args.words.now) (seen (g.F.Files.holds c.args.files.now) (g.F.Files.faults c.args.files.now) (coming (g.I.Input.lines c.args.input.now) (g.I.Input.given c.args.input.now) (g.I.Input.missed c.args.input.now)) c.args.steps.now (g.O.Sink.written c.args.out.now) (g.O.Sink.faults c.args.out.now)) (seen (g.F.Files.holds c.args.files.now) (g.F.Files.faults c.args.files.now) (coming (g.I.Input.lines c.args.input.now) (g.I.Input.given c.args.input.now) (g.I.Input.missed c.args.input.now)) c.args.steps.now (g.O.Sink.written c.args.out.now) (g.O.Sink.faults c.args.out.now)) c.lint_file.result (lint c.in-Some-Lint.definition.now c.in-Some-Lint.kind.now c.in-Some-Lint.program.now) wanted none);
     }
