@@ -48,8 +48,8 @@ module _ (def : Definition) (text : List ℕ) (f : Fragment) (r : Read) where
     found_open : (notes : List Finding) → IsWithin def f → IsOpen def f → stopped ≡ false → AreNotes def f r notes
         → AreFound stopped false (warnings def r (free_uses def f) ++ notes) false
 
--- The tokens are those of a tree of the kind in which elements may be lost, or of one that is too deep; and the tree of
--- what is left is within the limits, or is told not to be.
+-- The tokens are those of a tree of the kind in which elements may be lost, or of one that is too deep; and what is left is
+-- a tree of the kind in the language, which is within the limits, or is told not to be.
 pub data AreJudged (def : Definition) (kind : Kind) (text : List ℕ) (stopped : Bool) (tokens : List Spanned)
     : (limited : Bool) → List Finding → Bool → Type 0 where
   deep : HasDeep (quiet def) (goal_of kind) tokens
@@ -58,7 +58,8 @@ pub data AreJudged (def : Definition) (kind : Kind) (text : List ℕ) (stopped :
       → AreJudged def kind text stopped tokens false (error_at 0 large_message ∷ []) false
   judged : (r : Read) (limited : Bool) (found : List Finding) (more : Bool) → r.tokens ≡ tokens
       → IsParsed (quiet def) (goal_of kind) tokens r.whole → IsRead def kind tokens r.whole r.nodes
-      → (IsBig (left_out def r.whole) → ⊥) → AreFound def text (left_out def r.whole) r stopped limited found more
+      → WellFormed def (left_out def r.whole) kind → (IsBig (left_out def r.whole) → ⊥)
+      → AreFound def text (left_out def r.whole) r stopped limited found more
       → AreJudged def kind text stopped tokens limited found more
 
 -- What is found in the bytes, with the text whose lines and columns are told, and whether the search met a limit. Where the
