@@ -120,7 +120,7 @@ module _ (def : Definition) (text : List ℕ) (f : Fragment) (r : Read) where
         → has_error own ≡ false → ⊥
     first_told n place own (told_before path before) h e = h before.before before.earlier before.blamed
     first_told n place own (without_member at path less is never better) h e = true≢false e
-    first_told n place own (other_name path number w message is use) h e = true≢false e
+    first_told n place own (other_name path number w message is taken) h e = true≢false e
     first_told n place own (by_itself at message without before other is) h e = true≢false e
 
     none_told : (n : ℕ) (answers : List Bool) (places : List Place) (found : List Finding) → AreTold def text f r fresh kept n answers places found

@@ -88,8 +88,8 @@ none_before kept places list n lt h = absurd (omega (arith, lt))
 pub none_more : (kept : List Bool) (places : List Place) (list : Path) (count : ℕ) (b : Bool)
     → (b ≡ true) ↔ IsBlamedElement kept places list count → b ≡ false → AreNoneBefore kept places list count
     → AreNoneBefore kept places list (count + 1)
-none_more kept places list count b test no h n lt is = elim (cases_eq n count) [
-  | inl e ↦ true≢false (sym (test.1 (subst (IsBlamedElement kept places list) e is)) ∙ no)
+none_more kept places list count b test bad h n lt is = elim (cases_eq n count) [
+  | inl e ↦ true≢false (sym (test.1 (subst (IsBlamedElement kept places list) e is)) ∙ bad)
   | inr other ↦ h n (omega (arith, lt, other)) is
 ]
 
@@ -280,11 +280,11 @@ back_at_top opened = record { there = top_there opened; moves = refl }
 
 -- ---- what there is, or nothing
 
-pub option_some : {X : Type 0} {N : Type 0} {P : X → Type 0} (o : Option X) (x : X) → o ≡ Some x → MatchOption o N P → P x
-option_some {X} {N} {P} o x e h = subst (λ w. MatchOption w N P) e h
+pub option_some : {X : Type 0} (N : Type 0) (P : X → Type 0) (o : Option X) (x : X) → o ≡ Some x → MatchOption o N P → P x
+option_some N P o x e h = subst (λ w. MatchOption w N P) e h
 
-pub option_none : {X : Type 0} {N : Type 0} {P : X → Type 0} (o : Option X) → o ≡ None → MatchOption o N P → N
-option_none {X} {N} {P} o e h = subst (λ w. MatchOption w N P) e h
+pub option_none : {X : Type 0} (N : Type 0) (P : X → Type 0) (o : Option X) → o ≡ None → MatchOption o N P → N
+option_none N P o e h = subst (λ w. MatchOption w N P) e h
 
 -- ---- limits of trials
 
