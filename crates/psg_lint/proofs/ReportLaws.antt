@@ -113,8 +113,8 @@ judged_report def kind text stops found told tokens limited more report h all ar
     (subst (λ fs. AreInOrder fs report.found.items) all order))
 
 -- a fault that is told is one of the text
-pub real_fault : {P : LexFault → Type 0} (fault : LexFault) → (fault ≡ lex_faults.Memory → ⊥) → OrMemory P fault → P fault
-real_fault fault real h = elim h [ inl m ↦ absurd (real m) | inr is ↦ is ]
+pub real_fault : (P : LexFault → Type 0) (fault : LexFault) → (fault ≡ lex_faults.Memory → ⊥) → OrMemory P fault → P fault
+real_fault P fault real h = elim h [ inl m ↦ absurd (real m) | inr is ↦ is ]
 
 pub told_fault : (fault own : LexFault) (found : List Finding) → fault ≡ own
     → found ≡ error_at (byte_of own) (lexical_message own) ∷ [] → found ≡ error_at (byte_of fault) (lexical_message fault) ∷ []
