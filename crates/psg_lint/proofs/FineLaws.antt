@@ -1,5 +1,5 @@
 -- No line is an error exactly where the bytes are a program that has a completion.
-use Rattle.std.proofs.Common.{◌≡◌, ◌⊎◌, inl, inr, ℕ, zero, suc, ◌+◌, ◌<◌, ◌≤◌, ◌||◌, Bool, true, false, cond, List, [], ◌∷◌, ◌++◌, map, drop, chars, Option, Some, None, slice_get, refl, ap, ap₂, sym, subst, ◌∙◌, true≢false, arith}
+use Rattle.std.proofs.Common.{◌≡◌, inl, inr, ℕ, zero, suc, ◌+◌, ◌<◌, ◌≤◌, ◌||◌, Bool, true, false, cond, List, [], ◌∷◌, ◌++◌, map, drop, chars, Option, Some, None, slice_get, refl, ap, ap₂, sym, subst, ◌∙◌, true≢false, arith}
 use Rattle.std.specs.List.{AllByRecursion}
 use Rattle.std.proofs.lemmas.Bool.{cases_eq}
 use Rattle.std.proofs.lemmas.List.Folds.{list_any-append}
@@ -28,7 +28,6 @@ use Rattle.psg_class.proofs.Law.{only_trees}
 use Rattle.psg_cache.specs.declared.note.NoteFault.{NoteFault}
 use Rattle.psg_cache.specs.declared.note.NoteFault.TheVariants as faults
 use Rattle.psg_cache.specs.Notes.{IsNoteFault, IsWithin}
-use Rattle.psg_parse.specs.Stops.{MayEnd}
 use Rattle.psg_places.specs.declared.place.Place.{Place}
 use Rattle.psg_places.specs.Answers.{IsOfTree}
 use Rattle.psg_places.specs.Blame.{AreAllAnswers, blamed_in}
@@ -38,11 +37,11 @@ use Rattle.psg_program.specs.Decoding.{unmarked}
 use Rattle.psg_program.specs.Programs.{IsProgramText}
 use Rattle.psg_stop.specs.Accepted.{CanEnd}
 use Rattle.psg_recover.specs.declared.finding.Finding.{Finding}
-use Rattle.psg_recover.specs.Findings.{AreInOrder, error_at, has_error, is_error}
+use Rattle.psg_recover.specs.Findings.{AreInOrder, has_error, is_error}
 use Rattle.psg_recover.specs.Grammars.{plain_phylum, quiet}
 use Rattle.psg_recover.specs.Lost.{left_out}
 use Rattle.psg_recover.specs.Reads.{is_declaring_name, own_spanned, own_token}
-use Rattle.psg_recover.specs.Recovery.{AreStops, HasStops, IsStopTold, all_read, last_stop, read_on}
+use Rattle.psg_recover.specs.Recovery.{AreStops, IsStopTold, all_read, last_stop, read_on}
 use Rattle.psg_recover.specs.TextPlaces.{Read}
 use Rattle.psg_recover.proofs.FilledLaws.{IsOwnToken, filled_whole, is_filled}
 use Rattle.psg_recover.proofs.LosesLaws.{IsYielded, all_yielded, no_stops, own_same, programs_lose_nothing}

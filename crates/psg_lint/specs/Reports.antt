@@ -1,21 +1,14 @@
 -- All that is found in a program file.
-use Rattle.std.specs.Prelude.{◌||◌, chars, Option, None, ℕ, ◌≡◌, ◌⊎◌, ◌↔◌, Bool, true, false, List, [], ◌∷◌, ◌++◌, map, take, Some}
+use Rattle.std.specs.Prelude.{chars, None, ℕ, ◌≡◌, ◌⊎◌, ◌↔◌, Bool, true, false, List, [], ◌∷◌, ◌++◌, take, Some}
 use Rattle.std.specs.Str.{IsUtf8, IsValidUpTo}
 use Rattle.psg_grammar.specs.declared.types.Kind.{Kind}
-use Rattle.psg_grammar.specs.declared.types.Kind.TheVariants as kinds
 use Rattle.psg_grammar.specs.declared.types.Definition.{Definition}
 use Rattle.psg_grammar.specs.Fragments.{Fragment}
-use Rattle.psg_terms.specs.Names.{is_among}
-use Rattle.psg_terms.specs.Relations.{IsIn}
-use Rattle.psg_grammar.specs.Keys.{Key}
-use Rattle.psg_grammar.specs.Lookups.{is_scope}
 use Rattle.psg_grammar.specs.Open.{IsOpen}
-use Rattle.psg_grammar.specs.Regions.{declared_in, names_of, unfinished_inside}
 use Rattle.psg_grammar.specs.Sizes.{IsBig}
 use Rattle.psg_grammar.specs.WellFormed.{WellFormed, fixed_words}
 use Rattle.psg_cache.specs.declared.note.NoteFault.{NoteFault}
 use Rattle.psg_cache.specs.Notes.{IsNoteFault, IsWithin}
-use Rattle.psg_class.specs.Texts.{ReadsAs}
 use Rattle.psg_lexis.specs.Faults.{HasFault}
 use Rattle.psg_lexis.specs.declared.token.LexFault.{LexFault}
 use Rattle.psg_lexis.specs.declared.token.Spanned.{Spanned}
@@ -23,14 +16,13 @@ use Rattle.psg_parse.specs.Answers.{HasDeep, IsParsed}
 use Rattle.psg_places.specs.Answers.{IsOfTree}
 use Rattle.psg_program.specs.Decoding.{unmarked}
 use Rattle.psg_program.specs.Messages.{byte_of, deep_message, large_message, lexical_message, no_utf8_message}
-use Rattle.psg_program.specs.Programs.{HasNoProgram, IsProgram, goal_of}
+use Rattle.psg_program.specs.Programs.{IsProgram, goal_of}
 use Rattle.psg_recover.specs.declared.finding.Finding.{Finding}
 use Rattle.psg_recover.specs.Findings.{AreInOrder, error_at, has_error}
 use Rattle.psg_uses.specs.Free.{free_uses}
 use Rattle.psg_lint.specs.Warnings.{warnings}
 use Rattle.psg_recover.specs.Grammars.{quiet}
 use Rattle.psg_recover.specs.Lost.{left_out}
-use Rattle.psg_uses.specs.Naming.{key_of}
 use Rattle.psg_lint.specs.OpenPlaces.{AreNotes}
 use Rattle.psg_recover.specs.Recovery.{HasStops}
 use Rattle.psg_recover.specs.TextPlaces.{IsRead, Read}

@@ -47,12 +47,7 @@ fn counted<L: Ledger>(
 }
 
 /// What is found in the bytes.
-fn found(
-    alloc: Global,
-    language: &Language,
-    kind: Kind,
-    bytes: &[u8],
-) -> Result<Report, AllocError>
+fn found(alloc: Global, language: &Language, kind: Kind, bytes: &[u8]) -> Result<Report, AllocError>
     requires kind { HasKind language.now kind }
     requires quiet_kind { IsDeclaringPhylum language.now kind → ⊥ }
 {
@@ -94,7 +89,10 @@ const FILES: &[(&str, &str)] = &[
         "p:1:6: error: unexpected `skip`, expected end of the text\n",
     ),
     ("skip #", "p:1:6: error: this is no token of the language\n"),
-    ("skip '", "p:1:6: error: no token begins with this character\n"),
+    (
+        "skip '",
+        "p:1:6: error: no token begins with this character\n",
+    ),
 ];
 
 #[test]
