@@ -32,7 +32,7 @@ use Rattle.psg_lint.specs.Suspects.{AreSuspected}
 use Rattle.psg_lint.specs.Wrongs.{AreSuspects, AreTold, AreWrong, IsNumberTold, IsTold, IsToldBefore, list_path, member_message, trial_told, wide_message, wide_path}
 use Rattle.psg_lint.specs.Wrongs.{all_told, blamed, blamed_told, by_itself, few, kept_told, one_blamed, one_kept, other_name, told_before}
 use Rattle.psg_lint.specs.Wrongs.{too_many, without_member}
-use Rattle.psg_lint.proofs.PlaceLaws.{IsElementAt, IsFree, placed}
+use Rattle.psg_lint.proofs.PlaceLaws.{IsElementAt, IsEndAt, IsFree, placed}
 
 -- ---- kinds of places
 
@@ -326,6 +326,11 @@ element_list def f formed n e at =
     let own : IsElementAt def f e = placed def f formed n (Element e) at in
     let same : list_path e ≡ own.list = ap list_path own.path_is ∙ list_of_last own.list own.number in
     (own.node, ap (node_at f) same ∙ own.there, free_list def own.node own.free)
+
+pub end_list : (def : Definition) (f : Fragment) → IsFormed def f → (n : ℕ) (e : Path) → slice_get (places_of def f) n ≡ Some (End e)
+    → (list : Fragment) × (node_at f e ≡ Some list) × IsList list
+end_list def f formed n e at =
+    let own : IsEndAt def f e = placed def f formed n (End e) at in (own.list, own.there, own.is_list)
 
 module _ (def : Definition) (f : Fragment) (kept : List Bool) (places : List Place) (same_places : places ≡ places_of def f) (number : ℕ) (element : Path) where
   abbrev Before : Path → Type 0

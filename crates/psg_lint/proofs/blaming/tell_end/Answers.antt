@@ -1,6 +1,13 @@
+use Rattle.std.proofs.Common.{Some, ap, slice_get, sym, ◌∙◌}
 use Rattle.psg_lint.specs.Judged.{def_of, fresh_of, tree_in}
-use Rattle.psg_lint.proofs.TellLaws.{option_none, option_some, tells_end, tells_other}
+use Rattle.psg_lint.proofs.TellLaws.{end_list, option_none, option_some, tells_end, tells_other}
 use Rattle.psg_lint.proofs.blaming.tell_end.Goals as goal
+
+pub other_name-requires-clause-there : goal.other_name-requires-clause-there
+other_name-requires-clause-there g c =
+    let w = c.args.wrong in
+    end_list (def_of w) (tree_in w) c.requires.wrong.judged.formed c.args.number c.args.path.now
+    (ap (λ ps. slice_get ps c.args.number) (sym c.requires.wrong.places) ∙ c.requires.place ∙ ap Some c.requires.path)
 
 pub returns-in_ok-told-in-Some : goal.returns-in_ok-told-in-Some
 returns-in_ok-told-in-Some g c = λ r is.
