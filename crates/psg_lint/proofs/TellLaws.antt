@@ -73,6 +73,10 @@ list_of_last [] x = refl
 list_of_last (y ∷ []) x = refl
 list_of_last (y ∷ (z ∷ zs)) x = ap (λ p. y ∷ p) (list_of_last (z ∷ zs) x)
 
+pub list_of_none : (xs : Path) → length xs ≡ 0 → list_path xs ≡ []
+list_of_none [] e = refl
+list_of_none (x ∷ xs) e = absurd (omega (arith, e))
+
 -- ---- an earlier element of the list
 
 abbrev pub IsBlamedElement : List Bool → List Place → Path → ℕ → Type 0
