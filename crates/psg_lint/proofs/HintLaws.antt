@@ -39,7 +39,7 @@ use Rattle.psg_wanted.specs.Fronts.{IsGoodTree, IsTooMuch}
 use Rattle.psg_lint.specs.Blamed.{element_phylum}
 use Rattle.psg_lint.specs.Hints.{HasMember, HasNoOtherName, IsGoodWith, IsOtherName, IsLast, IsLoose, IsLastOther, IsLooseUse, IsOther, IsUndeclared, but_for}
 use Rattle.psg_lint.specs.declared.hints.OtherName.{OtherName}
-use Rattle.psg_lint.proofs.TellLaws.{option_none, option_some}
+use Rattle.psg_lint.proofs.OptionLaws.{option_none, option_some}
 use Rattle.psg_lint.proofs.PlaceLaws.{IsPartOf, child_part, head_below, last_below, name_part, rest_part, same_part, whole_part}
 
 pub good_turned : (def : Definition) (a b : Fragment) (good : Bool) → a ≡ b → (good ≡ true) ↔ ((IsTooMuch def a → ⊥) × IsOpen def a)
@@ -155,11 +155,11 @@ module _ {X : Type 0} (P : X → Type 0) (xs : List X) where
 
   pub none_more : (less place : ℕ) (x : X) (b : Bool) → less < length xs → place ≡ length xs - 1 - less → x ≡ get_or xs place x
       → (b ≡ true) ↔ P x → b ≡ false → HasNoneAfter less → HasNoneAfter (less + 1)
-  none_more less place x b lt e at test no h y k p =
+  none_more less place x b lt e at test bad h y k p =
       by_place y (subst (λ (ys : List X). IsIn y ys) (next_rest less place x lt e at) k) p
     where
       by_place : (y : X) → IsIn y (x ∷ drop (length xs - less) xs) → P y → ⊥
-      by_place _ first p = true≢false (sym (test.1 p) ∙ no)
+      by_place _ first p = true≢false (sym (test.1 p) ∙ bad)
       by_place y (later k) p = h y k p
 
   pub none_at_all : (less : ℕ) → length xs ≤ less → HasNoneAfter less → (x : X) → IsIn x xs → P x → ⊥
@@ -169,13 +169,13 @@ module _ {X : Type 0} (P : X → Type 0) (xs : List X) where
 
   pub last_is : (less place : ℕ) (x : X) (b : Bool) → less < length xs → place ≡ length xs - 1 - less → x ≡ get_or xs place x
       → (b ≡ true) ↔ P x → b ≡ true → HasNoneAfter less → IsLast P xs x
-  last_is less place x b lt e at test yes h =
+  last_is less place x b lt e at test so h =
       let same : length xs - (less + 1) ≡ place = omega (arith, lt, e) in
       record {
         front = take place xs;
         rest = drop (length xs - less) xs;
         split = both place xs ∙ ap (λ ys. take place xs ++ ys) (ap (λ n. drop n xs) (sym same) ∙ next_rest less place x lt e at);
-        holds = test.0 yes;
+        holds = test.0 so;
         last = λ y k p. h y k p;
       }
     where
@@ -254,9 +254,9 @@ module _ (def : Definition) (f : Fragment) (region : Path) where
   pub undeclared : (own : Named) (b : Bool)
       → (b ≡ true) ↔ ((d : Written) × (declaration_of def f own.name ≡ Some d) × (goes_through region d.path ≡ true))
       → own.declares ≡ false → b ≡ false → IsUndeclared def f region own
-  undeclared own b test used no = record {
+  undeclared own b test used bad = record {
     is_used = used;
-    loose = λ d is through. true≢false (sym (test.1 (d, is, through)) ∙ no);
+    loose = λ d is through. true≢false (sym (test.1 (d, is, through)) ∙ bad);
   }
 
   pub other_found : (name d : Written) (found : Option Written) (inside : Bool) → found ≡ declaration_of def f name
@@ -409,7 +409,7 @@ module _ (def : Definition) (fresh : ℕ → Word) (f : Fragment) (kept : List B
       × (other.answers.items ≡ but_for kept number ++ true ∷ []))
       → found ≡ None → AreNoOthers less → AreNoOthers (less + 1)
   no_others_more less number found lt at m none h n w le inside is = elim (cases_eq n number) [
-    | inl e ↦ (option_none found none m) w (subst (λ i. IsOther def fresh f kept region i w) e is)
+    | inl e ↦ (option_none _ _ found none m) w (subst (λ i. IsOther def fresh f kept region i w) e is)
     | inr other ↦ h n w (omega (arith, le, inside, at, lt, other)) inside is
   ]
 
@@ -420,7 +420,7 @@ module _ (def : Definition) (fresh : ℕ → Word) (f : Fragment) (kept : List B
       → found ≡ Some other → ((n : ℕ) (w : Written) → IsOther def fresh f kept region n w → n < end) → AreNoOthers less
       → IsLastOther def fresh f kept region other.number other.name × (other.answers.items ≡ but_for kept other.number ++ true ∷ [])
   last_other less other found number lt at m some below_end h =
-      let (same, is, answers) = option_some found other some m in (
+      let (same, is, answers) = option_some _ _ found other some m in (
         record {
           is = subst (λ i. IsOther def fresh f kept region i other.name) (sym same) is;
           last = λ n v after o.

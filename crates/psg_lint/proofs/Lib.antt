@@ -6,6 +6,7 @@ mod HintLaws
 mod OnceLaws
 mod PlaceLaws
 mod OpenLaws
+mod OptionLaws
 mod ReadLaws
 mod SeenLaws
 mod SuspectLaws
