@@ -13,8 +13,8 @@ returns-in-None g c =
 pub can_be-requires-clause-formed : goal.can_be-requires-clause-formed
 can_be-requires-clause-formed g c = c.requires.wrong.judged.formed
 
-pub returns-then-good-in-Some : goal.returns-then-good-in-Some
-returns-then-good-in-Some g c =
+pub returns-then-good : goal.returns-then-good
+returns-then-good g c =
     let w = c.args.wrong in
     let e = c.as_slice.ensures.value ∙ c.in_ok-answers-in-Some.ensures in (
       refl,
@@ -24,8 +24,8 @@ returns-then-good-in-Some g c =
       c.in_ok-answers-in-Some.ensures,
     )
 
-pub returns-in-Some : goal.returns-in-Some
-returns-in-Some g c =
+pub returns-else-good : goal.returns-else-good
+returns-else-good g c =
     let w = c.args.wrong in
     let e = c.as_slice.ensures.value ∙ c.in_ok-answers-in-Some.ensures in
     not_good (def_of w) (fresh_of w) (tree_in w) w.kept.now c.args.region.now c.args.end c.args.number c.requires.number c.as_slice.result.now
