@@ -4,7 +4,7 @@ use Rattle.std.specs.List.{AllByRecursion}
 use Rattle.std.specs.Option.{option_copied}
 use Rattle.std.specs.Prelude.{MatchOption}
 use Rattle.std.proofs.lemmas.Bool.{cases_eq}
-use Rattle.std.proofs.lemmas.List.{drop_all}
+use Rattle.std.proofs.lemmas.List.{drop_all, take_rest}
 use Rattle.std.proofs.lemmas.Option.{none-some, same_Some, slice_get_within}
 use Rattle.psg_terms.specs.Names.{Name as Word}
 use Rattle.psg_terms.specs.Relations.{IsIn, first, later}
@@ -34,10 +34,11 @@ use Rattle.psg_uses.specs.declared.names.Named.{Named}
 use Rattle.psg_uses.specs.declared.names.Written.{Written}
 use Rattle.psg_uses.specs.Naming.{nth_name, path_of_place}
 use Rattle.psg_uses.specs.Regions.{declaration_of, region_of}
-use Rattle.psg_uses.specs.Members.{fixed_members, is_declaring, list_members, members_at}
+use Rattle.psg_uses.specs.Members.{fixed_members, is_declaring, list_members, member_path, members_at}
 use Rattle.psg_wanted.specs.Fronts.{IsGoodTree, IsTooMuch}
 use Rattle.psg_lint.specs.Blamed.{element_phylum}
-use Rattle.psg_lint.specs.Hints.{HasMember, HasNoOtherName, IsGoodWith, IsOtherName, IsLast, IsLoose, IsLastOther, IsLooseUse, IsOther, IsUndeclared, but_for}
+use Rattle.psg_lint.specs.Hints.{HasMember, HasNoOtherName, HasNoWithout, IsGoodWith, IsOtherName, IsLast, IsLoose, IsLastOther, IsLooseUse}
+use Rattle.psg_lint.specs.Hints.{IsOther, IsUndeclared, IsWithout, but_for}
 use Rattle.psg_lint.specs.declared.hints.OtherName.{OtherName}
 use Rattle.psg_lint.proofs.OptionLaws.{option_none, option_some}
 use Rattle.psg_lint.proofs.PlaceLaws.{IsPartOf, child_part, head_below, last_below, name_part, rest_part, same_part, whole_part}
@@ -370,11 +371,11 @@ loose_place def f kept region number places place None e at is m = no_use def f 
 loose_place def f kept region number places place (Some w) e at is m = one_use def f kept region number places place w e at is m
 
 -- the answers but for one, as they are pushed
-pub but_pushed : (kept a b c d : List Bool) (number : ℕ) → a ≡ take number kept → b ≡ a ++ false ∷ [] → c ≡ b ++ drop (number + 1) kept
+pub but_pushed : (kept a b c d : List Bool) (number : ℕ) → a ≡ take number kept → b ≡ a ++ false ∷ [] → c ≡ b ++ take (length kept - (number + 1)) (drop (number + 1) kept)
     → d ≡ c ++ true ∷ [] → d ≡ but_for kept number ++ true ∷ []
 but_pushed kept a b c d number p q r s =
     let one : number + 1 ≡ suc number = omega arith in
-    s ∙ ap (λ (l : List Bool). l ++ true ∷ []) (r ∙ ap (λ (l : List Bool). l ++ drop (number + 1) kept) (q ∙ ap (λ (l : List Bool). l ++ false ∷ []) p)
+    s ∙ ap (λ (l : List Bool). l ++ true ∷ []) (r ∙ ap (λ (l : List Bool). b ++ l) (take_rest kept (number + 1)) ∙ ap (λ (l : List Bool). l ++ drop (number + 1) kept) (q ∙ ap (λ (l : List Bool). l ++ false ∷ []) p)
     ∙ append_assoc (take number kept) (false ∷ []) (drop (number + 1) kept)
     ∙ ap (λ (n : ℕ). take number kept ++ false ∷ (drop n kept)) one)
 
@@ -500,3 +501,21 @@ pub other_told : (def : Definition) (fresh : ℕ → Word) (f : Fragment) (kept 
 other_told def fresh f kept path region b None d so e h = none_other_name def fresh f kept path region e h
 other_told def fresh f kept path region b (Some other) d so e h =
     (other_name_is def fresh f kept path region other.number other.name (sym d ∙ so) e h.0, h.1)
+
+-- the last element less, by the elements and the answers that were looked at
+pub without_told : (def : Definition) (fresh : ℕ → Word) (f : Fragment) (kept : List Bool) (path : Path) (members : List Member)
+    (answers : List Bool) (found : Option Path) → members ≡ members_at def path (node_at f path) → answers ≡ kept ++ true ∷ []
+    → MatchOption found ((m : Member) → IsIn m members → IsGoodWith def fresh (change_at (removed m.number) m.list f) answers → ⊥)
+    (λ own. (m : Member) × IsLast (λ (o : Member). IsGoodWith def fresh (change_at (removed o.number) o.list f) answers) members m
+    × (own ≡ member_path m))
+    → MatchOption found (HasNoWithout def fresh f kept path)
+    (λ own. (less : Member) × IsWithout def fresh f kept path less × (own ≡ member_path less))
+without_told def fresh f kept path members answers found e a h =
+    subst (λ (as : List Bool). MatchOption found
+    ((m : Member) → IsIn m (members_at def path (node_at f path)) → IsGoodWith def fresh (change_at (removed m.number) m.list f) as → ⊥)
+    (λ own. (m : Member) × IsLast (λ (o : Member). IsGoodWith def fresh (change_at (removed o.number) o.list f) as)
+    (members_at def path (node_at f path)) m × (own ≡ member_path m))) a
+    (subst (λ (ms : List Member). MatchOption found
+    ((m : Member) → IsIn m ms → IsGoodWith def fresh (change_at (removed m.number) m.list f) answers → ⊥)
+    (λ own. (m : Member) × IsLast (λ (o : Member). IsGoodWith def fresh (change_at (removed o.number) o.list f) answers) ms m
+    × (own ≡ member_path m))) e h)

@@ -14,8 +14,11 @@ loop-less-init g c =
 
 pub is_better-requires-clause-member : goal.is_better-requires-clause-member
 is_better-requires-clause-member g c =
-    each_at (HasMember (tree_in c.args.wrong)) c.args.members.now c.requires.members c.loop-less.place c.index-members-place.result
-    (slice_get_item c.args.members.now c.loop-less.place c.index-members-place.result (search rules) c.index-members-place.is)
+    let lt : c.loop-less.less < length c.args.members.now = search rules in
+    let place = length c.args.members.now - 1 - c.loop-less.less in
+    let inside : place < length c.args.members.now = omega (arith, lt) in
+    each_at (HasMember (tree_in c.args.wrong)) c.args.members.now c.requires.members place c.index-members-place.result
+    (slice_get_item c.args.members.now place c.index-members-place.result inside c.index-members-place.is)
 
 pub loop-less-preserved : goal.loop-less-preserved
 loop-less-preserved g c =
