@@ -511,9 +511,9 @@ pub without_told : (def : Definition) (fresh : ℕ → Word) (f : Fragment) (kep
     → MatchOption found (HasNoWithout def fresh f kept path)
     (λ own. (less : Member) × IsWithout def fresh f kept path less × (own ≡ member_path less))
 without_told def fresh f kept path members answers found e a h =
-    subst (λ (as : List Bool). MatchOption found
-    ((m : Member) → IsIn m (members_at def path (node_at f path)) → IsGoodWith def fresh (change_at (removed m.number) m.list f) as → ⊥)
-    (λ own. (m : Member) × IsLast (λ (o : Member). IsGoodWith def fresh (change_at (removed o.number) o.list f) as)
+    subst (λ (ks : List Bool). MatchOption found
+    ((m : Member) → IsIn m (members_at def path (node_at f path)) → IsGoodWith def fresh (change_at (removed m.number) m.list f) ks → ⊥)
+    (λ own. (m : Member) × IsLast (λ (o : Member). IsGoodWith def fresh (change_at (removed o.number) o.list f) ks)
     (members_at def path (node_at f path)) m × (own ≡ member_path m))) a
     (subst (λ (ms : List Member). MatchOption found
     ((m : Member) → IsIn m ms → IsGoodWith def fresh (change_at (removed m.number) m.list f) answers → ⊥)
