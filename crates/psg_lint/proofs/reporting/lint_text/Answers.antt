@@ -8,5 +8,5 @@ pub returns-in_ok-made-in-Err : goal.returns-in_ok-made-in-Err
 returns-in_ok-made-in-Err g c =
     no_tokens_report c.args.language.now c.args.kind c.args.text.now c.in-Err.fault c.in_ok-made-in-Err.made c.in_ok-made-in-Err.ensures.found
     c.in_ok-made-in-Err.ensures.more
-    (real_fault c.in-Err.fault c.in_ok-made-in-Err.ensures.real
+    (real_fault _ c.in-Err.fault c.in_ok-made-in-Err.ensures.real
     (subst (λ ws. OrMemory (HasFault ws (chars c.args.text.now) 0) c.in-Err.fault) c.lexis.ensures c.in-Err.ensures.err))

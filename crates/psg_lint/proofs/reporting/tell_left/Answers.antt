@@ -32,5 +32,6 @@ returns g c =
       limited,
       e,
       judged_left l.language.now l.reader.known.definition.now l.reader.kind l.text.now (has_error c.args.found.now.items) limited c.in_ok-more.more
-          c.args.tokens.now c.args.parsed.now.tree c.args.tree.now nodes told h.same c.requires.parsed read c.requires.tree c.requires.small found,
+          c.args.tokens.now c.args.parsed.now.tree c.args.tree.now nodes told h.same c.requires.parsed read c.requires.tree
+          c.requires.formed c.requires.small found,
     )
