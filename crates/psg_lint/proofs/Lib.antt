@@ -7,6 +7,7 @@ mod MessageLaws
 mod NotedLaws
 mod OnceLaws
 mod OpenLaws
+mod OptionLaws
 mod PlaceLaws
 mod ReadLaws
 pub mod ReportLaws

@@ -33,12 +33,12 @@ element_menu-requires-clause-used g c =
     let is = subst (λ (o : Option Annotated). IfSome o (IsNoteOf c.args.judged.definition.now c.args.tree.now)) c.in-Some.is c.in_ok-found.ensures.note in
     c.as_slice-names.ensures.value ∙ c.in_ok-used.ensures ∙ ap occurring (sym is.tree)
 
-pub returns-in_ok-ops-in-Some : goal.returns-in_ok-ops-in-Some
-returns-in_ok-ops-in-Some g c =
+pub returns-in-Some : goal.returns-in-Some
+returns-in-Some g c =
     let def = c.args.judged.definition.now in
     let is = subst (λ (o : Option Annotated). IfSome o (IsNoteOf def c.args.tree.now)) c.in-Some.is c.in_ok-found.ensures.note in
     menu_told def c.args.tree.now c.in-Some.note is c.args.path.now c.args.list c.in_ok-place.place c.requires.there c.in_ok-place.ensures.step c.in_ok-ops-in-Some.ops.items c.in_ok-ops-in-Some.ensures
 
-pub returns-in-None : goal.returns-in-None
-returns-in-None g c =
+pub returns : goal.returns
+returns g c =
     no_menu c.args.judged.definition.now c.args.tree.now c.args.path.now c.args.list.phylum c.new.result.items (c.in_ok-found.ensures.none c.in-None.is) c.new.ensures.items

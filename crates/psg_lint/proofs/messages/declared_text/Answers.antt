@@ -15,4 +15,4 @@ pub returns-in_ok-own-in-None : goal.returns-in_ok-own-in-None
 returns-in_ok-own-in-None c = λ r spots.
     let j = c.args.judged in
     subst (λ (t : List ℕ). IsDeclaredText j.definition.now j.text.now j.tree.now r c.args.name.now t)
-    (sym c.in_ok-own-in-None.ensures) (declared_nowhere (sym c.in_ok-found.ensures ∙ c.in-None.is))
+    (sym c.in_ok-own-in-None.ensures.ok) (declared_nowhere (sym c.in_ok-found.ensures ∙ c.in-None.is))
