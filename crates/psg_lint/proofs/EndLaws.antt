@@ -51,7 +51,7 @@ no_kind def f s l es u (kind, formed) shape is none =
     let (k, found) = kind_there def l es u kind (subst (λ (g : Fragment). WellFormed def g kind) made formed) in
     none-some k (sym none ∙ found)
 
-is_a_list : (l : ℕ) (es : List Fragment) (u : Bool) → IsList (list_with l es u)
+pub is_a_list : (l : ℕ) (es : List Fragment) (u : Bool) → IsList (list_with l es u)
 is_a_list l [] u = tt
 is_a_list l (e ∷ es) u = tt
 
