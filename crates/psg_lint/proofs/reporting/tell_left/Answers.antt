@@ -27,7 +27,7 @@ returns g c =
     let h = c.requires.linting in
     let (nodes, read, ranges) = c.requires.read in
     let r : Read = record { tokens = c.args.tokens.now; whole = c.args.parsed.now.tree; nodes = nodes } in
-    let (told, e, limited, found) = c.in_ok-more.ensures r (record { known = h.reader.known; tokens = refl; whole = refl; nodes = ranges }) in (
+    let (told, e, (limited, found)) = c.in_ok-more.ensures r (record { known = h.reader.known; tokens = refl; whole = refl; nodes = ranges }) in (
       told,
       limited,
       e,
