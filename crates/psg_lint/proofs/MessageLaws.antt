@@ -1,5 +1,5 @@
 -- What is told of blamed places: where they are, and of which node.
-use Rattle.std.proofs.Common.{◌≡◌, Bor, ◌⊎◌, inl, inr, ◌<◌, ℕ, zero, suc, ◌+◌, ◌-◌, arith, Bool, true, false, cond, List, [], ◌∷◌, ◌++◌, length, take, Option, Some, None, slice_get, option_and_then, refl, ap, ap₂, sym, subst, ◌∙◌, true≢false}
+use Rattle.std.proofs.Common.{◌≡◌, Bor, ◌⊎◌, inl, inr, ◌<◌, ℕ, zero, suc, ◌+◌, Bool, true, false, cond, List, [], ◌∷◌, length, take, Option, Some, None, slice_get, option_and_then, refl, ap, ap₂, sym, subst, ◌∙◌, true≢false}
 use Rattle.std.specs.Prelude.{codes}
 use Rattle.std.proofs.lemmas.Bool.{cases_Bool}
 use Rattle.std.proofs.lemmas.Option.{none-some, same_Some}
@@ -19,17 +19,16 @@ use Rattle.psg_grammar.specs.Sound.{IsSound}
 use Rattle.psg_tree.specs.declared.tree.Part.{Part}
 use Rattle.psg_tree.specs.declared.tree.Shape.{Shape}
 use Rattle.psg_tree.specs.declared.tree.Shape.TheVariants.{Op, List as ListOf, Hole}
-use Rattle.psg_tree.specs.Shapes.{list_of as list_with, tree_of, with_parts}
+use Rattle.psg_tree.specs.Shapes.{list_of as list_with, tree_of}
 use Rattle.psg_cache.specs.Notes.{IsFormed}
 use Rattle.psg_cache.proofs.Evaluations.{top_parts}
 use Rattle.psg_cache.proofs.FormedTrees.{node_formed}
 use Rattle.psg_places.specs.declared.place.Place.{Place}
 use Rattle.psg_places.specs.declared.place.Place.TheVariants.{Node, Element, End, Name}
 use Rattle.psg_places.specs.Blame.{is_some_true, kept_in}
-use Rattle.psg_places.specs.Leading.{Becomes, gone_of, is_node, is_opened_at}
-use Rattle.psg_places.specs.Listings.{opened_among}
+use Rattle.psg_places.specs.Leading.{gone_of, is_node, is_opened_at}
 use Rattle.psg_places.specs.Opened.{contents, opened}
-use Rattle.psg_places.specs.Places.{content_count, declares, element_size, has_no_placeholder, may_go_on, place_count, places_of}
+use Rattle.psg_places.specs.Places.{content_count, declares, element_size, has_no_placeholder, may_go_on, places_of}
 use Rattle.psg_places.specs.Ways.{there_of}
 use Rattle.psg_places.proofs.FormedLaws.{formed}
 use Rattle.psg_places.proofs.InsideLaws.{IsChain}

@@ -1,11 +1,10 @@
-use Rattle.std.proofs.Common.{IfSome, Some, ap, sym, subst, ◌∙◌}
+use Rattle.std.proofs.Common.{IfSome, ap, sym, subst, ◌∙◌}
 use Rattle.std.specs.Prelude.{Option}
 use Rattle.psg_grammar.specs.Fragments.{Fragment}
 use Rattle.psg_cache.specs.Annotated.{Annotated}
 use Rattle.psg_cache.specs.Notes.{IsNoteOf}
 use Rattle.psg_renaming.specs.Occurring.{occurring}
 use Rattle.psg_wanted.specs.Listed.{IsListAt}
-use Rattle.psg_lint.specs.Blamed.{IsElementMenu}
 use Rattle.psg_lint.proofs.EndLaws.{list_at_is, menu_told, no_menu, own_note}
 use Rattle.psg_lint.proofs.MessageLaws.{judged_sound}
 use Rattle.psg_lint.proofs.ends.menu_at.Goals as goal

@@ -1,4 +1,4 @@
-use Rattle.std.proofs.Common.{List, ℕ, ◌++◌, ap, sym, subst, ◌∙◌}
+use Rattle.std.proofs.Common.{◌++◌, ap, sym, subst, ◌∙◌}
 use Rattle.std.specs.Prelude.{codes}
 use Rattle.psg_wanted.specs.Texts.{menu_or_none, say_nothing, values_text}
 use Rattle.psg_lint.specs.Blamed.{IsEndMessage}

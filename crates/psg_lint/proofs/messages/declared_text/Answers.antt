@@ -1,6 +1,6 @@
 use Rattle.std.proofs.Common.{List, ℕ, ◌++◌, ap, sym, subst, ◌∙◌}
 use Rattle.std.specs.Prelude.{codes}
-use Rattle.psg_lint.specs.Blamed.{IsDeclaredText, declared_at, declared_nowhere, place_text}
+use Rattle.psg_lint.specs.Blamed.{IsDeclaredText, declared_at, declared_nowhere}
 use Rattle.psg_lint.proofs.messages.declared_text.Goals as goal
 
 pub returns-in_ok-own-in-Some : goal.returns-in_ok-own-in-Some

@@ -1,4 +1,4 @@
-use Rattle.std.proofs.Common.{List, ℕ, Some, ap, sym, subst, take, ◌∙◌}
+use Rattle.std.proofs.Common.{Some, ap, sym, subst, take, ◌∙◌}
 use Rattle.std.specs.Prelude.{string_bytes}
 use Rattle.psg_places.specs.declared.place.Place.{Place}
 use Rattle.psg_places.specs.declared.place.Place.TheVariants.{Element}

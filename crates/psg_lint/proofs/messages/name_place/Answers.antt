@@ -1,4 +1,4 @@
-use Rattle.std.proofs.Common.{ap, subst, ◌∙◌}
+use Rattle.std.proofs.Common.{subst}
 use Rattle.psg_program.specs.Places.{IsAt}
 use Rattle.psg_lint.proofs.MessageLaws.{byte_is}
 use Rattle.psg_lint.proofs.messages.name_place.Goals as goal

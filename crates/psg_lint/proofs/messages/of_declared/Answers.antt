@@ -1,6 +1,6 @@
 use Rattle.std.proofs.Common.{List, ℕ, ◌++◌, ap, ap₂, sym, subst, ◌∙◌}
 use Rattle.std.specs.Prelude.{codes}
-use Rattle.psg_lint.specs.Blamed.{IsDeclaredMessage, once, place_text, twice}
+use Rattle.psg_lint.specs.Blamed.{IsDeclaredMessage, once, twice}
 use Rattle.psg_lint.proofs.messages.of_declared.Goals as goal
 
 pub returns-in_ok-message-in-Some : goal.returns-in_ok-message-in-Some

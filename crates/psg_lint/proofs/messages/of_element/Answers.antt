@@ -1,4 +1,4 @@
-use Rattle.std.proofs.Common.{◌≡◌, ap, subst, ◌∙◌}
+use Rattle.std.proofs.Common.{◌≡◌, ap, ◌∙◌}
 use Rattle.psg_grammar.specs.Fragments.{Fragment}
 use Rattle.psg_lint.specs.Blamed.{element_message}
 use Rattle.psg_lint.proofs.MessageLaws.{hole_element, list_element, no_node, operator_element, same_found}

@@ -1,4 +1,4 @@
-use Rattle.std.proofs.Common.{List, ℕ, ◌++◌, ap, ap₂, sym, subst, ◌∙◌}
+use Rattle.std.proofs.Common.{◌++◌, ap, ap₂, sym, subst, ◌∙◌}
 use Rattle.std.specs.Prelude.{codes, string_bytes}
 use Rattle.psg_wanted.specs.Texts.{entity_wanted}
 use Rattle.psg_lint.specs.Blamed.{IsUseMessage, use_message}
