@@ -1,4 +1,4 @@
-use Rattle.std.proofs.Common.{◌<◌, ◌≤◌, ◌-◌, take, arith, rules}
+use Rattle.std.proofs.Common.{◌<◌, ◌≤◌, take, arith, rules}
 use Rattle.psg_lint.specs.Judged.{def_of, fresh_of, tree_in}
 use Rattle.psg_lint.proofs.HintLaws.{last_other, no_others_all, no_others_first, no_others_more, other_inside}
 use Rattle.psg_lint.proofs.hints.last_use.Goals as goal
