@@ -1,8 +1,8 @@
 -- Lists that want a further element: what is known of them, and the tree with one.
-use Rattle.std.proofs.Common.{◌≡◌, inl, inr, ◌≤◌, ◌<◌, ℕ, zero, suc, ◌+◌, Bool, true, false, List, [], ◌∷◌, ◌++◌, length, Option, Some, None, slice_get, option_and_then, refl, ap, sym, subst, ◌∙◌, arith, true≢false}
+use Rattle.std.proofs.Common.{◌≡◌, inl, inr, ◌<◌, ℕ, zero, suc, Bool, true, false, List, [], ◌∷◌, ◌++◌, length, Option, Some, None, slice_get, option_and_then, refl, ap, sym, subst, ◌∙◌, arith, true≢false}
 use Rattle.std.specs.Prelude.{IfSome, codes}
 use Rattle.std.proofs.lemmas.Bool.{cases_Bool}
-use Rattle.std.proofs.lemmas.Option.{none-some, same_Some}
+use Rattle.std.proofs.lemmas.Option.{none-some}
 use Rattle.psg_terms.specs.Terms.{Term}
 use Rattle.psg_grammar.specs.declared.types.Definition.{Definition}
 use Rattle.psg_grammar.specs.declared.types.Kind.{Kind}
@@ -51,7 +51,7 @@ no_kind def f s l es u (kind, formed) shape is none =
     let (k, found) = kind_there def l es u kind (subst (λ (g : Fragment). WellFormed def g kind) made formed) in
     none-some k (sym none ∙ found)
 
-is_a_list : (l : ℕ) (es : List Fragment) (u : Bool) → IsList (list_with l es u)
+pub is_a_list : (l : ℕ) (es : List Fragment) (u : Bool) → IsList (list_with l es u)
 is_a_list l [] u = tt
 is_a_list l (e ∷ es) u = tt
 

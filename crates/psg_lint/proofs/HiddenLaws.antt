@@ -1,7 +1,6 @@
 -- A place below one that is opened is not seen in the tree: so it is never blamed, and a blamed node is there.
-use Rattle.std.proofs.Common.{◌≡◌, ◌⊎◌, inl, inr, ℕ, zero, suc, ◌+◌, ◌<◌, ◌≤◌, ◌&&◌, ◌||◌, ◌==◌, not, Bool, true, false, cond, List, [], ◌∷◌, ◌++◌, length, take, Option, Some, None, slice_get, refl, ap, ap₂, sym, ◌∙◌, subst, arith, true≢false, length-append}
+use Rattle.std.proofs.Common.{◌≡◌, ◌⊎◌, inl, inr, ℕ, suc, ◌+◌, ◌<◌, ◌&&◌, ◌||◌, not, Bool, true, false, cond, List, [], ◌∷◌, ◌++◌, length, Option, Some, refl, ap, ap₂, sym, ◌∙◌, subst, arith, true≢false, length-append}
 use Rattle.std.specs.Prelude.{nat_eq, nat_lt}
-use Rattle.std.specs.Cmp.Lexicographic.{pointwise}
 use Rattle.std.proofs.lemmas.Bool.{and_parts, eqb-true, ltb-true}
 use Rattle.psg_terms.specs.Names.{Name as Word}
 use Rattle.psg_grammar.specs.declared.types.Definition.{Definition}
@@ -18,11 +17,11 @@ use Rattle.psg_cache.specs.Notes.{IsFormed}
 use Rattle.psg_places.specs.declared.place.Place.{Place}
 use Rattle.psg_places.specs.declared.place.Place.TheVariants.{Node, Element, End, Name}
 use Rattle.psg_places.specs.Opened.{contents, name_or_fresh, opened, opened_child, opened_element}
-use Rattle.psg_places.specs.Places.{below, child_places, content_count, content_places, declared_count, declared_places, element_places}
+use Rattle.psg_places.specs.Places.{below, child_places, content_count, content_places, declared_count, declared_places}
 use Rattle.psg_places.specs.Places.{element_size, has_no_placeholder, is_hole, may_go_on, names_before, phylum_of, places_of}
 use Rattle.psg_places.specs.Ways.{covers, goes_into, goes_past, goes_through, takes_along}
 use Rattle.psg_places.proofs.CountLaws.{content_length, declared_length, element_length}
-use Rattle.psg_places.proofs.InsideLaws.{IsChain, IsParts}
+use Rattle.psg_places.proofs.InsideLaws.{IsParts}
 use Rattle.psg_places.proofs.WalkLaws.{IsShaped, shaped}
 use Rattle.psg_uses.specs.Naming.{path_of_place}
 use Rattle.psg_lint.proofs.PlaceLaws.{IsElementAt, IsFree, IsNodeAt, IsPartOf, IsPlaced, child_part, head_below, last_below}

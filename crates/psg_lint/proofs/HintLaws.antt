@@ -4,7 +4,7 @@ use Rattle.std.specs.List.{AllByRecursion}
 use Rattle.std.specs.Option.{option_copied}
 use Rattle.std.specs.Prelude.{MatchOption}
 use Rattle.std.proofs.lemmas.Bool.{cases_eq}
-use Rattle.std.proofs.lemmas.List.{drop_all}
+use Rattle.std.proofs.lemmas.List.{drop_all, take_rest}
 use Rattle.std.proofs.lemmas.Option.{none-some, same_Some, slice_get_within}
 use Rattle.psg_terms.specs.Names.{Name as Word}
 use Rattle.psg_terms.specs.Relations.{IsIn, first, later}
@@ -34,12 +34,13 @@ use Rattle.psg_uses.specs.declared.names.Named.{Named}
 use Rattle.psg_uses.specs.declared.names.Written.{Written}
 use Rattle.psg_uses.specs.Naming.{nth_name, path_of_place}
 use Rattle.psg_uses.specs.Regions.{declaration_of, region_of}
-use Rattle.psg_uses.specs.Members.{fixed_members, is_declaring, list_members, members_at}
+use Rattle.psg_uses.specs.Members.{fixed_members, is_declaring, list_members, member_path, members_at}
 use Rattle.psg_wanted.specs.Fronts.{IsGoodTree, IsTooMuch}
 use Rattle.psg_lint.specs.Blamed.{element_phylum}
-use Rattle.psg_lint.specs.Hints.{HasMember, HasNoOtherName, IsGoodWith, IsOtherName, IsLast, IsLoose, IsLastOther, IsLooseUse, IsOther, IsUndeclared, but_for}
+use Rattle.psg_lint.specs.Hints.{HasMember, HasNoOtherName, HasNoWithout, IsGoodWith, IsOtherName, IsLast, IsLoose, IsLastOther, IsLooseUse}
+use Rattle.psg_lint.specs.Hints.{IsOther, IsUndeclared, IsWithout, but_for}
 use Rattle.psg_lint.specs.declared.hints.OtherName.{OtherName}
-use Rattle.psg_lint.proofs.TellLaws.{option_none, option_some}
+use Rattle.psg_lint.proofs.OptionLaws.{option_none, option_some}
 use Rattle.psg_lint.proofs.PlaceLaws.{IsPartOf, child_part, head_below, last_below, name_part, rest_part, same_part, whole_part}
 
 pub good_turned : (def : Definition) (a b : Fragment) (good : Bool) → a ≡ b → (good ≡ true) ↔ ((IsTooMuch def a → ⊥) × IsOpen def a)
@@ -155,11 +156,11 @@ module _ {X : Type 0} (P : X → Type 0) (xs : List X) where
 
   pub none_more : (less place : ℕ) (x : X) (b : Bool) → less < length xs → place ≡ length xs - 1 - less → x ≡ get_or xs place x
       → (b ≡ true) ↔ P x → b ≡ false → HasNoneAfter less → HasNoneAfter (less + 1)
-  none_more less place x b lt e at test no h y k p =
+  none_more less place x b lt e at test bad h y k p =
       by_place y (subst (λ (ys : List X). IsIn y ys) (next_rest less place x lt e at) k) p
     where
       by_place : (y : X) → IsIn y (x ∷ drop (length xs - less) xs) → P y → ⊥
-      by_place _ first p = true≢false (sym (test.1 p) ∙ no)
+      by_place _ first p = true≢false (sym (test.1 p) ∙ bad)
       by_place y (later k) p = h y k p
 
   pub none_at_all : (less : ℕ) → length xs ≤ less → HasNoneAfter less → (x : X) → IsIn x xs → P x → ⊥
@@ -169,13 +170,13 @@ module _ {X : Type 0} (P : X → Type 0) (xs : List X) where
 
   pub last_is : (less place : ℕ) (x : X) (b : Bool) → less < length xs → place ≡ length xs - 1 - less → x ≡ get_or xs place x
       → (b ≡ true) ↔ P x → b ≡ true → HasNoneAfter less → IsLast P xs x
-  last_is less place x b lt e at test yes h =
+  last_is less place x b lt e at test so h =
       let same : length xs - (less + 1) ≡ place = omega (arith, lt, e) in
       record {
         front = take place xs;
         rest = drop (length xs - less) xs;
         split = both place xs ∙ ap (λ ys. take place xs ++ ys) (ap (λ n. drop n xs) (sym same) ∙ next_rest less place x lt e at);
-        holds = test.0 yes;
+        holds = test.0 so;
         last = λ y k p. h y k p;
       }
     where
@@ -254,9 +255,9 @@ module _ (def : Definition) (f : Fragment) (region : Path) where
   pub undeclared : (own : Named) (b : Bool)
       → (b ≡ true) ↔ ((d : Written) × (declaration_of def f own.name ≡ Some d) × (goes_through region d.path ≡ true))
       → own.declares ≡ false → b ≡ false → IsUndeclared def f region own
-  undeclared own b test used no = record {
+  undeclared own b test used bad = record {
     is_used = used;
-    loose = λ d is through. true≢false (sym (test.1 (d, is, through)) ∙ no);
+    loose = λ d is through. true≢false (sym (test.1 (d, is, through)) ∙ bad);
   }
 
   pub other_found : (name d : Written) (found : Option Written) (inside : Bool) → found ≡ declaration_of def f name
@@ -370,11 +371,11 @@ loose_place def f kept region number places place None e at is m = no_use def f 
 loose_place def f kept region number places place (Some w) e at is m = one_use def f kept region number places place w e at is m
 
 -- the answers but for one, as they are pushed
-pub but_pushed : (kept a b c d : List Bool) (number : ℕ) → a ≡ take number kept → b ≡ a ++ false ∷ [] → c ≡ b ++ drop (number + 1) kept
+pub but_pushed : (kept a b c d : List Bool) (number : ℕ) → a ≡ take number kept → b ≡ a ++ false ∷ [] → c ≡ b ++ take (length kept - (number + 1)) (drop (number + 1) kept)
     → d ≡ c ++ true ∷ [] → d ≡ but_for kept number ++ true ∷ []
 but_pushed kept a b c d number p q r s =
     let one : number + 1 ≡ suc number = omega arith in
-    s ∙ ap (λ (l : List Bool). l ++ true ∷ []) (r ∙ ap (λ (l : List Bool). l ++ drop (number + 1) kept) (q ∙ ap (λ (l : List Bool). l ++ false ∷ []) p)
+    s ∙ ap (λ (l : List Bool). l ++ true ∷ []) (r ∙ ap (λ (l : List Bool). b ++ l) (take_rest kept (number + 1)) ∙ ap (λ (l : List Bool). l ++ drop (number + 1) kept) (q ∙ ap (λ (l : List Bool). l ++ false ∷ []) p)
     ∙ append_assoc (take number kept) (false ∷ []) (drop (number + 1) kept)
     ∙ ap (λ (n : ℕ). take number kept ++ false ∷ (drop n kept)) one)
 
@@ -409,7 +410,7 @@ module _ (def : Definition) (fresh : ℕ → Word) (f : Fragment) (kept : List B
       × (other.answers.items ≡ but_for kept number ++ true ∷ []))
       → found ≡ None → AreNoOthers less → AreNoOthers (less + 1)
   no_others_more less number found lt at m none h n w le inside is = elim (cases_eq n number) [
-    | inl e ↦ (option_none found none m) w (subst (λ i. IsOther def fresh f kept region i w) e is)
+    | inl e ↦ (option_none _ _ found none m) w (subst (λ i. IsOther def fresh f kept region i w) e is)
     | inr other ↦ h n w (omega (arith, le, inside, at, lt, other)) inside is
   ]
 
@@ -420,7 +421,7 @@ module _ (def : Definition) (fresh : ℕ → Word) (f : Fragment) (kept : List B
       → found ≡ Some other → ((n : ℕ) (w : Written) → IsOther def fresh f kept region n w → n < end) → AreNoOthers less
       → IsLastOther def fresh f kept region other.number other.name × (other.answers.items ≡ but_for kept other.number ++ true ∷ [])
   last_other less other found number lt at m some below_end h =
-      let (same, is, answers) = option_some found other some m in (
+      let (same, is, answers) = option_some _ _ found other some m in (
         record {
           is = subst (λ i. IsOther def fresh f kept region i other.name) (sym same) is;
           last = λ n v after o.
@@ -500,3 +501,21 @@ pub other_told : (def : Definition) (fresh : ℕ → Word) (f : Fragment) (kept 
 other_told def fresh f kept path region b None d so e h = none_other_name def fresh f kept path region e h
 other_told def fresh f kept path region b (Some other) d so e h =
     (other_name_is def fresh f kept path region other.number other.name (sym d ∙ so) e h.0, h.1)
+
+-- the last element less, by the elements and the answers that were looked at
+pub without_told : (def : Definition) (fresh : ℕ → Word) (f : Fragment) (kept : List Bool) (path : Path) (members : List Member)
+    (answers : List Bool) (found : Option Path) → members ≡ members_at def path (node_at f path) → answers ≡ kept ++ true ∷ []
+    → MatchOption found ((m : Member) → IsIn m members → IsGoodWith def fresh (change_at (removed m.number) m.list f) answers → ⊥)
+    (λ own. (m : Member) × IsLast (λ (o : Member). IsGoodWith def fresh (change_at (removed o.number) o.list f) answers) members m
+    × (own ≡ member_path m))
+    → MatchOption found (HasNoWithout def fresh f kept path)
+    (λ own. (less : Member) × IsWithout def fresh f kept path less × (own ≡ member_path less))
+without_told def fresh f kept path members answers found e a h =
+    subst (λ (ks : List Bool). MatchOption found
+    ((m : Member) → IsIn m (members_at def path (node_at f path)) → IsGoodWith def fresh (change_at (removed m.number) m.list f) ks → ⊥)
+    (λ own. (m : Member) × IsLast (λ (o : Member). IsGoodWith def fresh (change_at (removed o.number) o.list f) ks)
+    (members_at def path (node_at f path)) m × (own ≡ member_path m))) a
+    (subst (λ (ms : List Member). MatchOption found
+    ((m : Member) → IsIn m ms → IsGoodWith def fresh (change_at (removed m.number) m.list f) answers → ⊥)
+    (λ own. (m : Member) × IsLast (λ (o : Member). IsGoodWith def fresh (change_at (removed o.number) o.list f) answers) ms m
+    × (own ≡ member_path m))) e h)

@@ -1,16 +1,18 @@
 mod EndLaws
-mod MessageLaws
-mod LineLaws
+mod FineLaws
 mod HiddenLaws
 mod HintLaws
+mod LineLaws
+mod MessageLaws
+mod NotedLaws
 mod OnceLaws
-mod PlaceLaws
 mod OpenLaws
+mod OptionLaws
+mod PlaceLaws
 mod ReadLaws
+pub mod ReportLaws
 mod SeenLaws
 mod SuspectLaws
 mod TellLaws
 mod WarningLaws
 mod WrongLaws
-mod NotedLaws
-pub mod ReportLaws

@@ -1,11 +1,12 @@
 -- What is told of blamed places: where they are, and of which node.
-use Rattle.std.proofs.Common.{◌≡◌, Bor, ◌⊎◌, inl, inr, ◌<◌, ℕ, zero, suc, ◌+◌, ◌-◌, arith, Bool, true, false, cond, List, [], ◌∷◌, ◌++◌, length, take, Option, Some, None, slice_get, option_and_then, refl, ap, ap₂, sym, subst, ◌∙◌, true≢false}
+use Rattle.std.proofs.Common.{◌≡◌, Bor, ◌⊎◌, inl, inr, ◌<◌, ℕ, zero, suc, ◌+◌, Bool, true, false, cond, List, [], ◌∷◌, length, take, Option, Some, None, slice_get, option_and_then, refl, ap, ap₂, sym, subst, ◌∙◌, true≢false}
 use Rattle.std.specs.Prelude.{codes}
 use Rattle.std.proofs.lemmas.Bool.{cases_Bool}
 use Rattle.std.proofs.lemmas.Option.{none-some, same_Some}
 use Rattle.std.proofs.lemmas.Slice.Eq.{bytes_eq-Decides}
 use Rattle.std.specs.Prelude.{option_copied}
 use Rattle.psg_terms.specs.Names.{Name as Word}
+use Rattle.psg_terms.proofs.Lists.{suc_is_not_zero}
 use Rattle.psg_terms.specs.Signature.{Signature}
 use Rattle.psg_terms.specs.Terms.{Term}
 use Rattle.psg_grammar.specs.declared.types.Definition.{Definition}
@@ -18,17 +19,16 @@ use Rattle.psg_grammar.specs.Sound.{IsSound}
 use Rattle.psg_tree.specs.declared.tree.Part.{Part}
 use Rattle.psg_tree.specs.declared.tree.Shape.{Shape}
 use Rattle.psg_tree.specs.declared.tree.Shape.TheVariants.{Op, List as ListOf, Hole}
-use Rattle.psg_tree.specs.Shapes.{list_of as list_with, tree_of, with_parts}
+use Rattle.psg_tree.specs.Shapes.{list_of as list_with, tree_of}
 use Rattle.psg_cache.specs.Notes.{IsFormed}
 use Rattle.psg_cache.proofs.Evaluations.{top_parts}
 use Rattle.psg_cache.proofs.FormedTrees.{node_formed}
 use Rattle.psg_places.specs.declared.place.Place.{Place}
 use Rattle.psg_places.specs.declared.place.Place.TheVariants.{Node, Element, End, Name}
 use Rattle.psg_places.specs.Blame.{is_some_true, kept_in}
-use Rattle.psg_places.specs.Leading.{Becomes, gone_of, is_node, is_opened_at}
-use Rattle.psg_places.specs.Listings.{opened_among}
+use Rattle.psg_places.specs.Leading.{gone_of, is_node, is_opened_at}
 use Rattle.psg_places.specs.Opened.{contents, opened}
-use Rattle.psg_places.specs.Places.{content_count, declares, element_size, has_no_placeholder, may_go_on, place_count, places_of}
+use Rattle.psg_places.specs.Places.{content_count, declares, element_size, has_no_placeholder, may_go_on, places_of}
 use Rattle.psg_places.specs.Ways.{there_of}
 use Rattle.psg_places.proofs.FormedLaws.{formed}
 use Rattle.psg_places.proofs.InsideLaws.{IsChain}
@@ -57,9 +57,7 @@ use Rattle.psg_lint.proofs.SeenLaws.{end_seen, node_seen, none_opened, there_is}
 
 first_kept : (n : ℕ) → kept_in (true ∷ []) n ≡ is_first n
 first_kept zero = refl
-first_kept (suc n) = none n where
-  none : (m : ℕ) → kept_in [] m ≡ false
-  none m = refl
+first_kept (suc n) = sym (suc_is_not_zero n)
 
 pub only_first : (def : Definition) (fresh : ℕ → Word) (f : Fragment) → opened def (kept_in (true ∷ [])) fresh f ≡ opened def is_first fresh f
 only_first def fresh f = of_places def f (kept_in (true ∷ [])) is_first fresh fresh (λ n lt. first_kept n) (λ n lt. refl)
@@ -131,16 +129,16 @@ module _ (def : Definition) (f : Fragment) (well : IsFormed def f) (kept : List 
   not_node n (End q) here = refl
   not_node n (Name q k) here = refl
 
-  pub list_kept : (there : Path) → there_of (gone_of def kept f) path ≡ Some there
+  pub list_kept : (there : Path) → there_of (gone_of def kept fresh f) path ≡ Some there
       → (u : Fragment) × (node_at (opened def (kept_in kept) fresh f) there ≡ Some u) × IsList u
   list_kept there e =
       let (u, found, becomes) = leads_there def kept fresh f well path there list at e in
-      let whole : is_opened_at (gone_of def kept f) path ≡ false = none_opened (is_node path) kept 0 (places_of def f) (λ i x here lost. not_node i x here) in
+      let whole : is_opened_at (gone_of def kept fresh f) path ≡ false = none_opened (is_node path) kept 0 (places_of def f) (λ i x here lost. not_node i x here) in
       let (d, n, made) = becomes.same whole in
       (u, found, subst IsList (sym made) (contents_list def (kept_in kept) fresh d n list (chain_of def f path list at well is)))
 
 pub node_kept : (def : Definition) (f : Fragment) (well : IsFormed def f) (kept : List Bool) (fresh : ℕ → Word) (path there : Path) (node : Fragment) → node_at f path ≡ Some node
-    → there_of (gone_of def kept f) path ≡ Some there → (u : Fragment) × (node_at (opened def (kept_in kept) fresh f) there ≡ Some u)
+    → there_of (gone_of def kept fresh f) path ≡ Some there → (u : Fragment) × (node_at (opened def (kept_in kept) fresh f) there ≡ Some u)
 node_kept def f well kept fresh path there node at e =
     let (u, found, becomes) = leads_there def kept fresh f well path there node at e in (u, found)
 
@@ -183,9 +181,6 @@ name_is w is number path k e found is_found none =
     let it = placed (def_of w) (tree_in w) is.judged.formed number (Name path k) here in
     none-some it.name (sym none ∙ is_found ∙ it.is)
 
-pub minus_none : (n : ℕ) → n - 0 ≡ n
-minus_none n = omega arith
-
 pub judged_sound : (j : Judged) → IsJudged j → IsSound j.definition.now
 judged_sound j is = subst IsSound is.same is.known.sound
 
@@ -220,14 +215,14 @@ module _ (w : Wrong) (is : IsWrong w) (number : ℕ) (lt : number < length w.kep
   place_is x e = ap (λ (ps : List Place). slice_get ps number) (sym is.places) ∙ e
 
   seen_there : (x : Place) → slice_get w.places.now number ≡ Some x → hides x (path_of_place x) ≡ false → (found : Option Path)
-      → found ≡ there_of (gone_of (def_of w) (take number w.kept.now) (tree_in w)) (path_of_place x) → found ≡ None → ⊥
+      → found ≡ there_of (gone_of (def_of w) (take number w.kept.now) (fresh_of w) (tree_in w)) (path_of_place x) → found ≡ None → ⊥
   seen_there x e seen found is_found none =
       none-some _ (sym none ∙ is_found
       ∙ there_is (def_of w) (tree_in w) is.judged.formed (fresh_of w) (IsOpen (def_of w)) w.kept.now is.answers.answers number lt
       (lost_is w.kept.now number blamed) x (place_is x e) seen)
 
   pub is_seen : (path : Path) → (slice_get w.places.now number ≡ Some (Node path)) ⊎ (slice_get w.places.now number ≡ Some (End path)) → (found : Option Path)
-      → found ≡ there_of (gone_of (def_of w) (take number w.kept.now) (tree_in w)) path → found ≡ None → ⊥
+      → found ≡ there_of (gone_of (def_of w) (take number w.kept.now) (fresh_of w) (tree_in w)) path → found ≡ None → ⊥
   is_seen path (inl e) found is_found none = seen_there (Node path) e (node_seen path) found is_found none
   is_seen path (inr e) found is_found none = seen_there (End path) e (end_seen path) found is_found none
 
@@ -242,14 +237,14 @@ module _ (w : Wrong) (is : IsWrong w) (number : ℕ) (lt : number < length w.kep
 
   -- in the tree of the places that are kept before
   pub node_before : (path own : Path) → slice_get w.places.now number ≡ Some (Node path)
-      → there_of (gone_of (def_of w) (take number w.kept.now) (tree_in w)) path ≡ Some own
+      → there_of (gone_of (def_of w) (take number w.kept.now) (fresh_of w) (tree_in w)) path ≡ Some own
       → (node : Fragment) × (node_at (opened (def_of w) (kept_in (take number w.kept.now)) (fresh_of w) (tree_in w)) own ≡ Some node)
   node_before path own e there =
       let (node, at) = node_is path e in
       node_kept (def_of w) (tree_in w) is.judged.formed (take number w.kept.now) (fresh_of w) path own node at there
 
   pub list_before : (path own : Path) → slice_get w.places.now number ≡ Some (End path)
-      → there_of (gone_of (def_of w) (take number w.kept.now) (tree_in w)) path ≡ Some own
+      → there_of (gone_of (def_of w) (take number w.kept.now) (fresh_of w) (tree_in w)) path ≡ Some own
       → (list : Fragment) × (node_at (opened (def_of w) (kept_in (take number w.kept.now)) (fresh_of w) (tree_in w)) own ≡ Some list) × IsList list
   list_before path own e there =
       let (list, at, is_list) = end_is path e in

@@ -1,5 +1,5 @@
 -- What is at each place of a tree: a node, an element, a list or a name.
-use Rattle.std.proofs.Common.{◌≡◌, ◌⊎◌, inl, inr, ℕ, zero, suc, ◌+◌, ◌<◌, ◌==◌, ◌&&◌, not, Bool, true, false, cond, List, [], ◌∷◌, ◌++◌, length, Option, Some, None, slice_get, option_and_then, refl, ap, sym, ◌∙◌, subst, arith, true≢false}
+use Rattle.std.proofs.Common.{◌≡◌, inl, inr, ℕ, zero, suc, ◌+◌, ◌<◌, ◌&&◌, not, Bool, true, false, cond, List, [], ◌∷◌, ◌++◌, length, Some, slice_get, option_and_then, refl, ap, sym, ◌∙◌, subst, arith, true≢false}
 use Rattle.std.proofs.lemmas.Bool.{eq-eqb, ne_eqb}
 use Rattle.std.proofs.lemmas.Option.{none-some}
 use Rattle.psg_terms.specs.Names.{Name as Word}
@@ -23,7 +23,6 @@ use Rattle.psg_places.specs.Places.{below, child_places, content_places, declare
 use Rattle.psg_places.specs.Places.{is_hole, may_go_on, names_before, places_of}
 use Rattle.psg_places.proofs.InsideLaws.{Each, IsChain, IsParts, each_both}
 use Rattle.psg_places.proofs.WalkLaws.{IsShaped, shaped}
-use Rattle.psg_uses.specs.declared.names.NameItem.{NameItem}
 use Rattle.psg_uses.specs.declared.names.Named.{Named}
 use Rattle.psg_uses.specs.Naming.{name_in, name_item, nth_name, own_name}
 

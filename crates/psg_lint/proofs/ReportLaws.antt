@@ -1,5 +1,5 @@
 -- The report of a text: its stops, and what is found in what is read at last.
-use Rattle.std.proofs.Common.{◌≡◌, inl, inr, ℕ, zero, suc, ◌+◌, ◌||◌, ◌⊎◌, Bool, true, false, length, List, [], ◌∷◌, ◌++◌, map, take, Option, Some, None, refl, ap, sym, subst, ◌∙◌, true≢false}
+use Rattle.std.proofs.Common.{◌≡◌, inl, inr, ℕ, zero, suc, ◌||◌, ◌⊎◌, Bool, true, false, length, List, [], ◌∷◌, ◌++◌, map, take, Option, Some, None, refl, ap, sym, subst, ◌∙◌, true≢false}
 use Rattle.std.specs.Prelude.{chars}
 use Rattle.std.specs.Str.{IsUtf8, IsValidUpTo}
 use Rattle.std.specs.Cmp.{IsStrictWeakOrder, IsTotalOrder}
@@ -113,8 +113,8 @@ judged_report def kind text stops found told tokens limited more report h all ar
     (subst (λ fs. AreInOrder fs report.found.items) all order))
 
 -- a fault that is told is one of the text
-pub real_fault : {P : LexFault → Type 0} (fault : LexFault) → (fault ≡ lex_faults.Memory → ⊥) → OrMemory P fault → P fault
-real_fault fault real h = elim h [ inl m ↦ absurd (real m) | inr is ↦ is ]
+pub real_fault : (P : LexFault → Type 0) (fault : LexFault) → (fault ≡ lex_faults.Memory → ⊥) → OrMemory P fault → P fault
+real_fault P fault real h = elim h [ inl m ↦ absurd (real m) | inr is ↦ is ]
 
 pub told_fault : (fault own : LexFault) (found : List Finding) → fault ≡ own
     → found ≡ error_at (byte_of own) (lexical_message own) ∷ [] → found ≡ error_at (byte_of fault) (lexical_message fault) ∷ []
@@ -269,12 +269,12 @@ too_deep def kind text stopped tokens fault is e = deep (subst (IsFault (quiet d
 
 pub judged_left : (def own : Definition) (kind : Kind) (text : List ℕ) (stopped limited more : Bool) (tokens : List Spanned)
     (whole tree : Fragment) (nodes : Forest) (told : List Finding) → own ≡ def → IsParsed (quiet def) (goal_of kind) tokens whole
-    → IsRead def kind tokens whole nodes → tree ≡ left_out def whole → (IsBig tree → ⊥)
+    → IsRead def kind tokens whole nodes → tree ≡ left_out def whole → WellFormed def tree kind → (IsBig tree → ⊥)
     → AreFound own text tree (record { tokens = tokens; whole = whole; nodes = nodes }) stopped limited told more
     → AreJudged def kind text stopped tokens limited told more
-judged_left def own kind text stopped limited more tokens whole tree nodes told same parsed read left small found =
+judged_left def own kind text stopped limited more tokens whole tree nodes told same parsed read left formed small found =
     let r : Read = record { tokens = tokens; whole = whole; nodes = nodes } in
-    judged r limited told more refl parsed read (subst (λ t. IsBig t → ⊥) left small)
+    judged r limited told more refl parsed read (subst (λ t. WellFormed def t kind) left formed) (subst (λ t. IsBig t → ⊥) left small)
     (subst (λ t. AreFound def text t r stopped limited told more) left
     (subst (λ d. AreFound d text tree r stopped limited told more) same found))
 

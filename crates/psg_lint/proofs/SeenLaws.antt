@@ -1,16 +1,12 @@
 -- A blamed node or end is there in the tree of the places that are kept before it.
-use Rattle.std.proofs.Common.{◌≡◌, ◌⊎◌, inl, inr, ℕ, zero, suc, ◌+◌, ◌<◌, ◌≤◌, ◌&&◌, ◌||◌, ◌==◌, not, Bool, true, false, cond, List, [], ◌∷◌, ◌++◌, length, take, Option, Some, None, slice_get, refl, ap, ap₂, sym, ◌∙◌, subst, arith, true≢false}
-use Rattle.std.specs.Prelude.{nat_eq, nat_lt}
-use Rattle.std.specs.Cmp.Lexicographic.{pointwise, same_text}
+use Rattle.std.proofs.Common.{◌≡◌, ◌⊎◌, inl, inr, ℕ, zero, suc, ◌+◌, ◌<◌, ◌&&◌, ◌||◌, ◌==◌, not, Bool, true, false, cond, List, [], ◌∷◌, ◌++◌, length, take, Some, None, slice_get, refl, ap, ap₂, sym, ◌∙◌, subst, arith, true≢false}
+use Rattle.std.specs.Prelude.{nat_lt}
 use Rattle.std.specs.List.{list_any}
-use Rattle.std.proofs.lemmas.Bool.{cases_eq, cases_lt, eq-eqb, le-ltb, lt-ltb, ne_eqb, or_parts}
+use Rattle.std.proofs.lemmas.Bool.{cases_eq, cases_lt, le-ltb, lt-ltb, ne_eqb, or_parts}
 use Rattle.psg_terms.specs.Names.{Name as Word}
 use Rattle.psg_grammar.specs.declared.types.Definition.{Definition}
-use Rattle.psg_grammar.specs.declared.types.Kind.{Kind}
-use Rattle.psg_grammar.specs.declared.types.Kind.TheVariants as kinds
-use Rattle.psg_grammar.specs.Fragments.{Fragment, hole, ending, cell, operator, with_child, with_name, with_number}
-use Rattle.psg_grammar.specs.Fragments.{with_text, anything, observed}
-use Rattle.psg_grammar.specs.Paths.{Path, node_at}
+use Rattle.psg_grammar.specs.Fragments.{Fragment}
+use Rattle.psg_grammar.specs.Paths.{Path}
 use Rattle.psg_cache.specs.Notes.{IsFormed}
 use Rattle.psg_places.specs.declared.place.Place.{Place}
 use Rattle.psg_places.specs.declared.place.Place.TheVariants.{Node, Element, End, Name}
@@ -18,7 +14,7 @@ use Rattle.psg_places.specs.Blame.{AreAnswers, kept_in, kept_of_first, up_to}
 use Rattle.psg_places.specs.Listings.{opened_among}
 use Rattle.psg_places.specs.Opened.{opened}
 use Rattle.psg_places.specs.Places.{places_of}
-use Rattle.psg_places.specs.Ways.{covers, goes_past, goes_through, is_covered, is_left_out, moved, takes_along, there_of}
+use Rattle.psg_places.specs.Ways.{covers, goes_through, is_covered, is_left_out, moved, takes_along, there_of}
 use Rattle.psg_places.proofs.BlameLaws.{grown}
 use Rattle.psg_uses.specs.Naming.{path_of_place}
 use Rattle.psg_lint.proofs.HiddenLaws.{Tie, Ties, bool_cases, hides, same_tree}

@@ -55,8 +55,8 @@ outside_none kept places path n lt h = absurd (omega (arith, lt))
 pub outside_more : (kept : List Bool) (places : List Place) (path : Path) (count : ℕ) (b : Bool)
     → (b ≡ true) ↔ IsBlamedInside kept places path count → b ≡ false → AreOutsideTo kept places path count
     → AreOutsideTo kept places path (count + 1)
-outside_more kept places path count b test no h n lt is = elim (cases_eq n count) [
-  | inl e ↦ not_both b (test.1 (subst (IsBlamedInside kept places path) e is)) no
+outside_more kept places path count b test bad h n lt is = elim (cases_eq n count) [
+  | inl e ↦ not_both b (test.1 (subst (IsBlamedInside kept places path) e is)) bad
   | inr other ↦ h n (omega (arith, lt, other)) is
 ]
 
@@ -200,12 +200,14 @@ module _ (def : Definition) (f : Fragment) where
         → IsSuspected def f r fresh kept number own → SuspectedTo places number told
         → SuspectedTo places (number + 1) (told ++ own)
     suspected_more places number told own lt is h rest more =
-        let (place, at) = here places number lt in
+        let (place, there) = here places number lt in
+        let one : number + 1 ≡ suc number = omega arith in
+        let at = there ∙ ap (λ n. place ∷ drop n places) (sym one) in
         subst (AreSuspected def f r fresh kept 0 places) (sym (append_assoc told own rest))
         (h (own ++ rest) (subst (λ ps. AreSuspected def f r fresh kept number ps (own ++ rest)) (sym at)
         (one_more number place (drop (number + 1) places) own rest is more)))
       where
-        here : (xs : List Place) (i : ℕ) → i < length xs → (x : Place) × (drop i xs ≡ x ∷ drop (i + 1) xs)
+        here : (xs : List Place) (i : ℕ) → i < length xs → (x : Place) × (drop i xs ≡ x ∷ drop (suc i) xs)
         here [] i lt = absurd (omega (arith, lt))
         here (x ∷ xs) zero lt = (x, refl)
         here (x ∷ xs) (suc i) lt = here xs i (omega (arith, lt))

@@ -32,7 +32,7 @@ use Rattle.psg_lint.specs.Suspects.{AreSuspected}
 use Rattle.psg_lint.specs.Wrongs.{AreSuspects, AreTold, AreWrong, IsNumberTold, IsTold, IsToldBefore, list_path, member_message, trial_told, wide_message, wide_path}
 use Rattle.psg_lint.specs.Wrongs.{all_told, blamed, blamed_told, by_itself, few, kept_told, one_blamed, one_kept, other_name, told_before}
 use Rattle.psg_lint.specs.Wrongs.{too_many, without_member}
-use Rattle.psg_lint.proofs.PlaceLaws.{IsElementAt, IsFree, placed}
+use Rattle.psg_lint.proofs.PlaceLaws.{IsElementAt, IsEndAt, IsFree, placed}
 
 -- ---- kinds of places
 
@@ -73,6 +73,10 @@ list_of_last [] x = refl
 list_of_last (y ∷ []) x = refl
 list_of_last (y ∷ (z ∷ zs)) x = ap (λ p. y ∷ p) (list_of_last (z ∷ zs) x)
 
+pub list_of_none : (xs : Path) → length xs ≡ 0 → list_path xs ≡ []
+list_of_none [] e = refl
+list_of_none (x ∷ xs) e = absurd (omega (arith, e))
+
 -- ---- an earlier element of the list
 
 abbrev pub IsBlamedElement : List Bool → List Place → Path → ℕ → Type 0
@@ -88,8 +92,8 @@ none_before kept places list n lt h = absurd (omega (arith, lt))
 pub none_more : (kept : List Bool) (places : List Place) (list : Path) (count : ℕ) (b : Bool)
     → (b ≡ true) ↔ IsBlamedElement kept places list count → b ≡ false → AreNoneBefore kept places list count
     → AreNoneBefore kept places list (count + 1)
-none_more kept places list count b test no h n lt is = elim (cases_eq n count) [
-  | inl e ↦ true≢false (sym (test.1 (subst (IsBlamedElement kept places list) e is)) ∙ no)
+none_more kept places list count b test bad h n lt is = elim (cases_eq n count) [
+  | inl e ↦ true≢false (sym (test.1 (subst (IsBlamedElement kept places list) e is)) ∙ bad)
   | inr other ↦ h n (omega (arith, lt, other)) is
 ]
 
@@ -280,11 +284,11 @@ back_at_top opened = record { there = top_there opened; moves = refl }
 
 -- ---- what there is, or nothing
 
-pub option_some : {X : Type 0} {N : Type 0} {P : X → Type 0} (o : Option X) (x : X) → o ≡ Some x → MatchOption o N P → P x
-option_some {X} {N} {P} o x e h = subst (λ w. MatchOption w N P) e h
+pub option_some : {X : Type 0} (N : Type 0) (P : X → Type 0) (o : Option X) (x : X) → o ≡ Some x → MatchOption o N P → P x
+option_some N P o x e h = subst (λ w. MatchOption w N P) e h
 
-pub option_none : {X : Type 0} {N : Type 0} {P : X → Type 0} (o : Option X) → o ≡ None → MatchOption o N P → N
-option_none {X} {N} {P} o e h = subst (λ w. MatchOption w N P) e h
+pub option_none : {X : Type 0} (N : Type 0) (P : X → Type 0) (o : Option X) → o ≡ None → MatchOption o N P → N
+option_none N P o e h = subst (λ w. MatchOption w N P) e h
 
 -- ---- limits of trials
 
@@ -326,6 +330,11 @@ element_list def f formed n e at =
     let own : IsElementAt def f e = placed def f formed n (Element e) at in
     let same : list_path e ≡ own.list = ap list_path own.path_is ∙ list_of_last own.list own.number in
     (own.node, ap (node_at f) same ∙ own.there, free_list def own.node own.free)
+
+pub end_list : (def : Definition) (f : Fragment) → IsFormed def f → (n : ℕ) (e : Path) → slice_get (places_of def f) n ≡ Some (End e)
+    → (list : Fragment) × (node_at f e ≡ Some list) × IsList list
+end_list def f formed n e at =
+    let own : IsEndAt def f e = placed def f formed n (End e) at in (own.list, own.there, own.is_list)
 
 module _ (def : Definition) (f : Fragment) (kept : List Bool) (places : List Place) (same_places : places ≡ places_of def f) (number : ℕ) (element : Path) where
   abbrev Before : Path → Type 0

@@ -1,5 +1,6 @@
 -- What is known of a wrong program: its definition is sound, and its trees with places opened are trees.
 use Rattle.std.proofs.Common.{◌≡◌, ℕ, zero, suc, ◌<◌, ◌≤◌, Bool, true, false, List, [], ◌∷◌, length, get_or, Option, Some, None, slice_get, refl, ap, sym, ◌∙◌, subst, arith, true≢false}
+use Rattle.std.proofs.lemmas.Option.{slice_get-get_or}
 use Rattle.psg_terms.proofs.Lists.{slice_get_item}
 use Rattle.psg_grammar.specs.Fragments.{Fragment}
 use Rattle.psg_grammar.specs.Open.{IsOpen}
@@ -80,5 +81,9 @@ pub place_at : (w : Wrong) → IsWrong w → (n : ℕ) → n < length w.kept.now
     → slice_get w.places.now n ≡ Some x
 place_at w h n lt x e = let le = all_listed w h in slice_get_item w.places.now n x (omega (arith, lt, le)) e
 
-pub place_in : (places : List Place) (n : ℕ) → n < length places → (x : Place) → x ≡ get_or places n x → slice_get places n ≡ Some x
-place_in places n lt x e = slice_get_item places n x lt e
+-- the place that the index gives
+pub got_at : (w : Wrong) → IsWrong w → (n : ℕ) → n < length w.kept.now → (x : Place) → slice_get w.places.now n ≡ Some (get_or w.places.now n x)
+got_at w h n lt x = let le = all_listed w h in slice_get-get_or w.places.now n x (omega (arith, lt, le))
+
+pub got_in : (places : List Place) (n : ℕ) → n < length places → (x : Place) → slice_get places n ≡ Some (get_or places n x)
+got_in places n lt x = slice_get-get_or places n x lt

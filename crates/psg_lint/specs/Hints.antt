@@ -1,12 +1,12 @@
 -- Other places than the blamed one, which say more of what is wrong.
-use Rattle.std.specs.Prelude.{ℕ, suc, ◌≡◌, ◌<◌, ◌==◌, ◌&&◌, not, Bool, true, false, cond, List, [], ◌∷◌, ◌++◌, length, Option, Some, None, slice_get, take, drop}
+use Rattle.std.specs.Prelude.{ℕ, suc, ◌≡◌, ◌<◌, Bool, true, false, List, [], ◌∷◌, ◌++◌, length, Some, slice_get, take, drop}
 use Rattle.psg_terms.specs.Names.{Name}
 use Rattle.psg_terms.specs.Relations.{IsIn}
 use Rattle.psg_grammar.specs.declared.types.Definition.{Definition}
 use Rattle.psg_grammar.specs.Fragments.{Fragment, children_of}
 use Rattle.psg_grammar.specs.Paths.{IsList, Path, change_at, node_at, removed}
 use Rattle.psg_places.specs.declared.place.Place.{Place}
-use Rattle.psg_places.specs.declared.place.Place.TheVariants.{Node, Element, End, Name as NameOf}
+use Rattle.psg_places.specs.declared.place.Place.TheVariants.{Name as NameOf}
 use Rattle.psg_places.specs.Blame.{kept_in}
 use Rattle.psg_places.specs.Opened.{opened}
 use Rattle.psg_places.specs.Places.{declares, places_of}

@@ -1,5 +1,5 @@
 -- What is known of a list.
-use Rattle.std.specs.Prelude.{ℕ, ◌≡◌, Bool, length, Some, slice_get}
+use Rattle.std.specs.Prelude.{◌≡◌, length, Some, slice_get}
 use Rattle.psg_grammar.specs.declared.types.Definition.{Definition}
 use Rattle.psg_grammar.specs.declared.types.ListKind.{ListKind}
 use Rattle.psg_grammar.specs.Fragments.{Fragment, children_of}

@@ -1,21 +1,14 @@
 -- All that is found in a program file.
-use Rattle.std.specs.Prelude.{◌||◌, chars, Option, None, ℕ, ◌≡◌, ◌⊎◌, ◌↔◌, Bool, true, false, List, [], ◌∷◌, ◌++◌, map, take, Some}
+use Rattle.std.specs.Prelude.{chars, None, ℕ, ◌≡◌, ◌⊎◌, ◌↔◌, Bool, true, false, List, [], ◌∷◌, ◌++◌, take, Some}
 use Rattle.std.specs.Str.{IsUtf8, IsValidUpTo}
 use Rattle.psg_grammar.specs.declared.types.Kind.{Kind}
-use Rattle.psg_grammar.specs.declared.types.Kind.TheVariants as kinds
 use Rattle.psg_grammar.specs.declared.types.Definition.{Definition}
 use Rattle.psg_grammar.specs.Fragments.{Fragment}
-use Rattle.psg_terms.specs.Names.{is_among}
-use Rattle.psg_terms.specs.Relations.{IsIn}
-use Rattle.psg_grammar.specs.Keys.{Key}
-use Rattle.psg_grammar.specs.Lookups.{is_scope}
 use Rattle.psg_grammar.specs.Open.{IsOpen}
-use Rattle.psg_grammar.specs.Regions.{declared_in, names_of, unfinished_inside}
 use Rattle.psg_grammar.specs.Sizes.{IsBig}
 use Rattle.psg_grammar.specs.WellFormed.{WellFormed, fixed_words}
 use Rattle.psg_cache.specs.declared.note.NoteFault.{NoteFault}
 use Rattle.psg_cache.specs.Notes.{IsNoteFault, IsWithin}
-use Rattle.psg_class.specs.Texts.{ReadsAs}
 use Rattle.psg_lexis.specs.Faults.{HasFault}
 use Rattle.psg_lexis.specs.declared.token.LexFault.{LexFault}
 use Rattle.psg_lexis.specs.declared.token.Spanned.{Spanned}
@@ -23,14 +16,13 @@ use Rattle.psg_parse.specs.Answers.{HasDeep, IsParsed}
 use Rattle.psg_places.specs.Answers.{IsOfTree}
 use Rattle.psg_program.specs.Decoding.{unmarked}
 use Rattle.psg_program.specs.Messages.{byte_of, deep_message, large_message, lexical_message, no_utf8_message}
-use Rattle.psg_program.specs.Programs.{HasNoProgram, IsProgram, goal_of}
+use Rattle.psg_program.specs.Programs.{IsProgram, goal_of}
 use Rattle.psg_recover.specs.declared.finding.Finding.{Finding}
 use Rattle.psg_recover.specs.Findings.{AreInOrder, error_at, has_error}
 use Rattle.psg_uses.specs.Free.{free_uses}
 use Rattle.psg_lint.specs.Warnings.{warnings}
 use Rattle.psg_recover.specs.Grammars.{quiet}
 use Rattle.psg_recover.specs.Lost.{left_out}
-use Rattle.psg_uses.specs.Naming.{key_of}
 use Rattle.psg_lint.specs.OpenPlaces.{AreNotes}
 use Rattle.psg_recover.specs.Recovery.{HasStops}
 use Rattle.psg_recover.specs.TextPlaces.{IsRead, Read}
@@ -48,8 +40,8 @@ module _ (def : Definition) (text : List ℕ) (f : Fragment) (r : Read) where
     found_open : (notes : List Finding) → IsWithin def f → IsOpen def f → stopped ≡ false → AreNotes def f r notes
         → AreFound stopped false (warnings def r (free_uses def f) ++ notes) false
 
--- The tokens are those of a tree of the kind in which elements may be lost, or of one that is too deep; and the tree of
--- what is left is within the limits, or is told not to be.
+-- The tokens are those of a tree of the kind in which elements may be lost, or of one that is too deep; and what is left is
+-- a tree of the kind in the language, which is within the limits, or is told not to be.
 pub data AreJudged (def : Definition) (kind : Kind) (text : List ℕ) (stopped : Bool) (tokens : List Spanned)
     : (limited : Bool) → List Finding → Bool → Type 0 where
   deep : HasDeep (quiet def) (goal_of kind) tokens
@@ -58,7 +50,8 @@ pub data AreJudged (def : Definition) (kind : Kind) (text : List ℕ) (stopped :
       → AreJudged def kind text stopped tokens false (error_at 0 large_message ∷ []) false
   judged : (r : Read) (limited : Bool) (found : List Finding) (more : Bool) → r.tokens ≡ tokens
       → IsParsed (quiet def) (goal_of kind) tokens r.whole → IsRead def kind tokens r.whole r.nodes
-      → (IsBig (left_out def r.whole) → ⊥) → AreFound def text (left_out def r.whole) r stopped limited found more
+      → WellFormed def (left_out def r.whole) kind → (IsBig (left_out def r.whole) → ⊥)
+      → AreFound def text (left_out def r.whole) r stopped limited found more
       → AreJudged def kind text stopped tokens limited found more
 
 -- What is found in the bytes, with the text whose lines and columns are told, and whether the search met a limit. Where the

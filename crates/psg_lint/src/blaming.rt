@@ -58,6 +58,16 @@ fn is_element_of(place: &Place, list: &[u32]) -> bool
     }
 }
 
+/// Returns the place of the number.
+fn place_at<'a>(wrong: Wrong<'a>, number: usize) -> &'a Place
+    requires wrong { IsWrong wrong }
+    requires number { number < length wrong.kept.now }
+    ensures { slice_get wrong.entry.places.now number ≡ Some (result.now) }
+{
+    let places = wrong.places;
+    &places[number]
+}
+
 /// Says whether the place of the number is blamed, and an element of the list.
 fn is_blamed_element(wrong: Wrong, number: usize, list: &[u32]) -> bool
     requires wrong { IsWrong wrong }
@@ -69,7 +79,7 @@ fn is_blamed_element(wrong: Wrong, number: usize, list: &[u32]) -> bool
     if !is_blamed(wrong.kept, number) {
         return false;
     }
-    let place = &wrong.places[number];
+    let place = place_at(wrong, number);
     is_element_of(place, list)
 }
 
@@ -273,7 +283,7 @@ fn told_place<L: Ledger>(
         wrong.entry.judged.text.now (tree_in wrong.entry) r (fresh_of wrong.entry) wrong.entry.kept.now number place
         (one_or_none found)) }
 {
-    let place = &wrong.places[number];
+    let place = place_at(wrong, number);
     match place {
         Place::Node(path) => {
             let told = tell_node(alloc, wrong, number, place, path, steps)?;

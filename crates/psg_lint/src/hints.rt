@@ -7,7 +7,7 @@ ghost use Rattle.psg_grammar.specs.Paths as grammar;
 ghost use Rattle.psg_grammar.specs.Paths.{IsList, node_at};
 ghost use Rattle.psg_places.specs.Ways.{goes_through};
 ghost use Rattle.psg_places.specs.declared.place.Place.TheVariants as places;
-ghost use Rattle.psg_uses.specs.Members as members;
+ghost use Rattle.psg_uses.specs.Members as elements;
 ghost use Rattle.psg_uses.specs.Regions as uses;
 ghost use Rattle.psg_uses.specs.declared.elements.Member.{Member as PlainMember};
 ghost use Rattle.psg_uses.specs.declared.names.Written.{Written as Plain};
@@ -30,7 +30,7 @@ use std::sync::ledger::Ledger;
 fn members_at(alloc: Global, wrong: Wrong, path: &Path) -> Result<Vec<Member>, AllocError>
     requires wrong { IsWrong wrong }
     ensures { IfOk result (λ found. found.items
-        ≡ members.members_at (def_of wrong.entry) path.now (node_at (tree_in wrong.entry) path.now)) }
+        ≡ elements.members_at (def_of wrong.entry) path.now (node_at (tree_in wrong.entry) path.now)) }
 {
     let judged = wrong.judged;
     let mut found = Vec::new(alloc);
@@ -88,7 +88,7 @@ fn last_better<L: Ledger>(
         (grammar.change_at (grammar.removed m.number) m.list (tree_in wrong.entry)) answers.now → ⊥)
         (λ path. (m : PlainMember) × IsLast (λ (o : PlainMember). IsGoodWith (def_of wrong.entry) (fresh_of wrong.entry)
         (grammar.change_at (grammar.removed o.number) o.list (tree_in wrong.entry)) answers.now) members.now m
-        × (path ≡ members.member_path m))) }
+        × (path ≡ elements.member_path m))) }
 {
     for less in 0..members.len() {
         let place = members.len() - 1 - less;
@@ -118,7 +118,7 @@ pub(crate) fn better_without<L: Ledger>(
         (HasNoWithout (def_of wrong.entry) (fresh_of wrong.entry) (tree_in wrong.entry)
         (take number wrong.entry.kept.now) path.now)
         (λ own. (less : PlainMember) × IsWithout (def_of wrong.entry) (fresh_of wrong.entry) (tree_in wrong.entry)
-        (take number wrong.entry.kept.now) path.now less × (own ≡ members.member_path less))) }
+        (take number wrong.entry.kept.now) path.now less × (own ≡ elements.member_path less))) }
 {
     let members = members_at(alloc, wrong, path)?;
     let answers = up_to(alloc, wrong.kept, number)?;

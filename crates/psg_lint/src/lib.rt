@@ -14,6 +14,7 @@ mod blaming;
 mod ends;
 mod hints;
 mod judging;
+pub mod laws;
 mod lines;
 mod messages;
 mod open_places;

@@ -150,8 +150,8 @@ fn told_list<L: Ledger>(
     requires program { IsOpenOne own }
     requires there { IsListThere own.judged.definition.now own.judged.tree.now path.now list }
     ensures { IfOk result (λ told. (r : Read) → IsSpotsOf own.entry.judged.spots r → (ops : List ℕ)
-        × IsMenu own.entry.judged.definition.now own.entry.judged.tree.now path.now (Some list.entry.elements)
-        (IsListed own.entry.judged.definition.now) list.entry.phylum ops
+        × IsMenu own.entry.judged.definition.now own.entry.judged.tree.now path.now (Some list.elements)
+        (IsListed own.entry.judged.definition.now) list.phylum ops
         × (told ≡ findings.note_at (last_byte own.entry.judged.definition.now r path.now)
         (codes "the list is open: " ++ texts.menu_or_none own.entry.judged.definition.now ops))) }
 {

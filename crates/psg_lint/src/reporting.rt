@@ -1,7 +1,7 @@
 //! All that is found in the bytes of a program file.
 ghost use Rattle.std.specs.Prelude.{◌≡◌, ◌++◌, ◌∷◌, ◌↔◌, [], ℕ, Bool, IfOk, IsTrue, List, OnOk, Some, false};
 ghost use Rattle.psg_grammar.specs.Kinds.{HasKind};
-ghost use Rattle.psg_grammar.specs.Sizes.{IsBig};
+ghost use Rattle.psg_grammar.specs.Sizes.{HasLongList, IsBig};
 ghost use Rattle.psg_grammar.specs.WellFormed.{WellFormed};
 ghost use Rattle.psg_class.specs.Texts.{TextTokens};
 ghost use Rattle.psg_lexis.specs.declared.token.LexFault.TheVariants as faults;
@@ -135,11 +135,22 @@ pub(crate) struct Linting<'a> {
     pub(crate) text: &'a str,
 }
 
+/// Says whether a list of the tree has too many elements.
+#[tactic(auto, using(psg_cache::proofs::LongLists::long_lists))]
+fn has_long_list(tree: &Tree) -> bool
+    ensures { IsTrue result ↔ HasLongList tree.now }
+{
+    longest_list(tree) > MOST_ELEMENTS
+}
+
 /// Says whether the tree has too many nodes, or a list of it too many elements.
 fn is_big(tree: &Tree) -> bool
     ensures { IsTrue result ↔ IsBig tree.now }
 {
-    nodes(tree) > MOST_NODES || longest_list(tree) > MOST_ELEMENTS
+    if nodes(tree) > MOST_NODES {
+        return true;
+    }
+    has_long_list(tree)
 }
 
 /// Adds an error of the whole text.
@@ -319,11 +330,11 @@ fn lint_tokens<L: Ledger>(
 }
 
 /// Finds all in the text, which has these tokens.
-fn lint_read<L: Ledger>(
+fn lint_read<'a, L: Ledger>(
     alloc: Global,
-    language: &Language,
+    language: &'a Language,
     kind: Kind,
-    text: &str,
+    text: &'a str,
     tokens: &[Spanned],
     steps: &mut Steps<L>,
 ) -> Result<Report, AllocError>

@@ -1,4 +1,4 @@
-//! What is found in three program files of MINI.
+//! What is found in program files of MINI.
 ghost use Rattle.std.specs.Prelude.{◌≡◌, ◌<◌};
 ghost use Rattle.psg_grammar.specs.Kinds.{HasKind};
 ghost use Rattle.psg_specimen.specs.Languages.{IsDeclaringPhylum};
@@ -6,6 +6,7 @@ ghost use Rattle.psg_specimen.specs.Languages.{IsDeclaringPhylum};
 use psg_defread::read_definition;
 use psg_grammar::Kind;
 use psg_langs::MINI;
+use psg_lint::laws::fine_exactly;
 use psg_lint::{Report, lint, report_text};
 use psg_specimen::{Language, accept};
 use psg_terms::Steps;
@@ -32,7 +33,7 @@ fn counted<L: Ledger>(
     alloc: Global,
     language: &Language,
     kind: Kind,
-    text: &str,
+    bytes: &[u8],
     ledger: Blank,
 ) -> Result<Report, AllocError>
     requires kind { HasKind language.now kind }
@@ -42,23 +43,23 @@ fn counted<L: Ledger>(
     requires some { 0 < L.parts }
 {
     let mut steps = Steps::<L>::of(ledger);
-    lint(alloc, language, kind, text.as_bytes(), &mut steps)
+    lint(alloc, language, kind, bytes, &mut steps)
 }
 
-/// What is found in the text.
-fn found(alloc: Global, language: &Language, kind: Kind, text: &str) -> Result<Report, AllocError>
+/// What is found in the bytes.
+fn found(alloc: Global, language: &Language, kind: Kind, bytes: &[u8]) -> Result<Report, AllocError>
     requires kind { HasKind language.now kind }
     requires quiet_kind { IsDeclaringPhylum language.now kind → ⊥ }
 {
-    counted::<Brand>(alloc, language, kind, text, Blank::new(1))
+    counted::<Brand>(alloc, language, kind, bytes, Blank::new(1))
 }
 
-/// The lines of what is found in the text, which is to be of the phylum of the number.
+/// The lines of what is found in the bytes, which are to be a tree of the phylum of the number.
 fn lines(
     alloc: Global,
     language: &Language,
     phylum: u32,
-    text: &str,
+    bytes: &[u8],
 ) -> Result<String, AllocError> {
     if phylum as usize >= language.definition().phyla.as_slice().len() {
         return Err(AllocError);
@@ -67,8 +68,8 @@ fn lines(
     if language.is_declaring(kind) {
         return Err(AllocError);
     }
-    let report = found(alloc, language, kind, text)?;
-    report_text(alloc, "p", text.as_bytes(), &report)
+    let report = found(alloc, language, kind, bytes)?;
+    report_text(alloc, "p", bytes, &report)
 }
 
 /// Texts of the first phylum, and their lines.
@@ -79,15 +80,31 @@ const FILES: &[(&str, &str)] = &[
         "?Stat",
         "p:1:1: note: ?Stat is open: block assign call while skip\n",
     ),
+    (
+        "begin var x : int do x := true end",
+        "p:1:27: error: wanted int, found bool\n",
+    ),
+    (
+        "skip skip",
+        "p:1:6: error: unexpected `skip`, expected end of the text\n",
+    ),
+    ("skip #", "p:1:6: error: this is no token of the language\n"),
+    (
+        "skip '",
+        "p:1:6: error: no token begins with this character\n",
+    ),
 ];
 
 #[test]
 fn files(rt: HostRuntime) -> Result<(), Fail> {
     let alloc = rt.alloc();
     let mini = language(alloc, MINI)?;
+    fine_exactly(&mini);
     for (text, wanted) in FILES {
-        let own = lines(alloc, &mini, 0, text)?;
+        let own = lines(alloc, &mini, 0, text.as_bytes())?;
         assert_eq!(rt; own.as_str(), *wanted);
     }
+    let own = lines(alloc, &mini, 0, &[255])?;
+    assert_eq!(rt; own.as_str(), "p:1:1: error: this is no UTF-8\n");
     Ok(())
 }

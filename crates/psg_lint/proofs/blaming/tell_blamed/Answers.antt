@@ -7,13 +7,15 @@ use Rattle.psg_lint.proofs.blaming.tell_blamed.Goals as goal
 
 pub tell_places-requires : goal.tell_places-requires
 tell_places-requires g c = record {
-  judged = c.requires.judged;
-  names = c.requires.blamed.names;
-  new = c.requires.blamed.new;
-  places = c.as_slice-2.ensures.value ∙ c.in_ok-places.ensures;
-  answers = subst (λ (ks : List Bool). AreAllAnswers (IsOpen c.args.judged.definition.now) c.args.judged.definition.now
-      (new_name c.args.blamed.now.names) c.args.judged.tree.now ks) (sym c.as_slice.ensures)
-      (c.requires.blamed.answers (new_name c.args.blamed.now.names) c.requires.blamed.new);
+  wrong = record {
+    judged = c.requires.judged;
+    names = c.requires.blamed.names;
+    new = c.requires.blamed.new;
+    places = c.as_slice-2.ensures.value ∙ c.in_ok-places.ensures;
+    answers = subst (λ (ks : List Bool). AreAllAnswers (IsOpen c.args.judged.definition.now) c.args.judged.definition.now
+        (new_name c.args.blamed.now.names) c.args.judged.tree.now ks) (sym c.as_slice.ensures)
+        (c.requires.blamed.answers (new_name c.args.blamed.now.names) c.requires.blamed.new);
+  };
 }
 
 pub returns : goal.returns

@@ -1,11 +1,10 @@
-use Rattle.std.proofs.Common.{IfSome, Some, ap, sym, subst, ◌∙◌}
+use Rattle.std.proofs.Common.{IfSome, ap, sym, subst, ◌∙◌}
 use Rattle.std.specs.Prelude.{Option}
 use Rattle.psg_grammar.specs.Fragments.{Fragment}
 use Rattle.psg_cache.specs.Annotated.{Annotated}
 use Rattle.psg_cache.specs.Notes.{IsNoteOf}
 use Rattle.psg_renaming.specs.Occurring.{occurring}
 use Rattle.psg_wanted.specs.Listed.{IsListAt}
-use Rattle.psg_lint.specs.Blamed.{IsElementMenu}
 use Rattle.psg_lint.proofs.EndLaws.{list_at_is, menu_told, no_menu, own_note}
 use Rattle.psg_lint.proofs.MessageLaws.{judged_sound}
 use Rattle.psg_lint.proofs.ends.menu_at.Goals as goal
@@ -33,12 +32,12 @@ element_menu-requires-clause-used g c =
     let is = subst (λ (o : Option Annotated). IfSome o (IsNoteOf c.args.judged.definition.now c.args.tree.now)) c.in-Some.is c.in_ok-found.ensures.note in
     c.as_slice-names.ensures.value ∙ c.in_ok-used.ensures ∙ ap occurring (sym is.tree)
 
-pub returns-in_ok-ops-in-Some : goal.returns-in_ok-ops-in-Some
-returns-in_ok-ops-in-Some g c =
+pub returns-in-Some : goal.returns-in-Some
+returns-in-Some g c =
     let def = c.args.judged.definition.now in
     let is = subst (λ (o : Option Annotated). IfSome o (IsNoteOf def c.args.tree.now)) c.in-Some.is c.in_ok-found.ensures.note in
     menu_told def c.args.tree.now c.in-Some.note is c.args.path.now c.args.list c.in_ok-place.place c.requires.there c.in_ok-place.ensures.step c.in_ok-ops-in-Some.ops.items c.in_ok-ops-in-Some.ensures
 
-pub returns-in-None : goal.returns-in-None
-returns-in-None g c =
+pub returns : goal.returns
+returns g c =
     no_menu c.args.judged.definition.now c.args.tree.now c.args.path.now c.args.list.phylum c.new.result.items (c.in_ok-found.ensures.none c.in-None.is) c.new.ensures.items

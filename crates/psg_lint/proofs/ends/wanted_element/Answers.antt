@@ -1,4 +1,4 @@
-use Rattle.std.proofs.Common.{◌≡◌, Some, true, false, [], sym, subst, true≢false, ◌∙◌}
+use Rattle.std.proofs.Common.{◌≡◌, Some, sym, subst, true≢false, ◌∙◌}
 use Rattle.psg_grammar.specs.Fragments.{Fragment}
 use Rattle.psg_grammar.specs.Paths.{Path, node_at}
 use Rattle.psg_cache.specs.Notes.{IsFormed}
@@ -18,7 +18,7 @@ returns-then-declaring-clause-sorted g c = none_sorted c.args.judged.definition.
 pub with_last-requires : goal.with_last-requires
 with_last-requires g c =
     let is = c.requires.there in
-    (is.node, is.there, is.is.is_list, is.is.elements)
+    record { there = (is.node, is.there, is.is.is_list, is.is.elements) }
 
 pub values_at-requires-clause-sound : goal.values_at-requires-clause-sound
 values_at-requires-clause-sound g c = judged_sound c.args.judged c.requires.judged

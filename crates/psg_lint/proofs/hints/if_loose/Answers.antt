@@ -3,8 +3,8 @@ use Rattle.psg_lint.specs.Judged.{def_of, tree_in}
 use Rattle.psg_lint.proofs.HintLaws.{declared_there, not_used, undeclared}
 use Rattle.psg_lint.proofs.hints.if_loose.Goals as goal
 
-pub returns-then-own-declares : goal.returns-then-own-declares
-returns-then-own-declares c =
+pub returns-then-own : goal.returns-then-own
+returns-then-own c =
     not_used (def_of c.args.wrong) (tree_in c.args.wrong) c.args.region.now c.args.own (let yes : c.args.own.declares ≡ true = search rules in yes)
 
 pub returns-then-inside : goal.returns-then-inside

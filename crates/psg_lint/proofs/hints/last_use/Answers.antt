@@ -1,4 +1,4 @@
-use Rattle.std.proofs.Common.{◌<◌, ◌≤◌, ◌-◌, take, arith, rules}
+use Rattle.std.proofs.Common.{◌<◌, ◌≤◌, take, arith, rules}
 use Rattle.psg_lint.specs.Judged.{def_of, fresh_of, tree_in}
 use Rattle.psg_lint.proofs.HintLaws.{last_other, no_others_all, no_others_first, no_others_more, other_inside}
 use Rattle.psg_lint.proofs.hints.last_use.Goals as goal
@@ -15,8 +15,8 @@ returns-in-Some g c =
     c.in_ok-found.found _ lt (omega arith) c.in_ok-found.ensures c.in-Some.is
     (other_inside (def_of w) (fresh_of w) (tree_in w) w.kept.now c.args.region.now c.args.end) c.loop-less.invariant
 
-pub loop-less-preserved-in-None : goal.loop-less-preserved-in-None
-loop-less-preserved-in-None g c =
+pub loop-less-preserved : goal.loop-less-preserved
+loop-less-preserved g c =
     let w = c.args.wrong in
     let lt : c.loop-less.less < c.args.end = search rules in
     no_others_more (def_of w) (fresh_of w) (tree_in w) (take c.args.end w.kept.now) c.args.region.now c.args.end c.loop-less.less _

@@ -3,7 +3,7 @@ use Rattle.psg_lint.proofs.HintLaws.{members_found, no_members}
 use Rattle.psg_lint.proofs.hints.members_at.Goals as goal
 
 pub add_members-requires : goal.add_members-requires
-add_members-requires c = c.requires.wrong.judged.known
+add_members-requires c = record { known = c.requires.wrong.judged.known }
 
 pub returns-in_ok-add_members-in-Some : goal.returns-in_ok-add_members-in-Some
 returns-in_ok-add_members-in-Some c =

@@ -37,9 +37,9 @@ returns g c = λ r is.
     let stopped = c.has_error-stopped.ensures ∙ ap has_error c.as_slice.ensures.value in
     let why : (IsOpen j.definition.now j.tree.now → ⊥) ⊎ (has_error old ≡ true) = elim (c.is_both-whole.ensures.no no) [
       | inl bad ↦ inl (λ o. true≢false (sym (c.is_good-good.ensures.rows.1 (c.requires.good.0 o)) ∙ bad))
-      | inr yes ↦ inr (sym stopped ∙ yes)
+      | inr so ↦ inr (sym stopped ∙ so)
     ] in
-    let (told, e, limited, h) = c.in_ok-more.ensures r is in (
+    let (told, e, (limited, h)) = c.in_ok-more.ensures r is in (
       told ++ own,
       free ∙ ap (λ (xs : List Finding). xs ++ own) e ∙ append_assoc old told own,
       (limited, found_wrong limited told c.in_ok-more.more c.requires.note.within h why),

@@ -1,7 +1,6 @@
 use Rattle.std.proofs.Common.{◌++◌, ◌∷◌, [], append_assoc, append-nil, ap, cond, sym, ◌∙◌}
 use Rattle.std.specs.Prelude.{codes, string_bytes}
 use Rattle.psg_recover.specs.Findings.{with_feeds}
-use Rattle.psg_lint.proofs.LineLaws.{last_lines}
 use Rattle.psg_lint.proofs.lines.push_more.Goals as goal
 
 pub returns-then-more : goal.returns-then-more

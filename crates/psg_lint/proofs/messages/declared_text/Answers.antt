@@ -1,6 +1,6 @@
 use Rattle.std.proofs.Common.{List, ℕ, ◌++◌, ap, sym, subst, ◌∙◌}
 use Rattle.std.specs.Prelude.{codes}
-use Rattle.psg_lint.specs.Blamed.{IsDeclaredText, declared_at, declared_nowhere, place_text}
+use Rattle.psg_lint.specs.Blamed.{IsDeclaredText, declared_at, declared_nowhere}
 use Rattle.psg_lint.proofs.messages.declared_text.Goals as goal
 
 pub returns-in_ok-own-in-Some : goal.returns-in_ok-own-in-Some
@@ -15,4 +15,4 @@ pub returns-in_ok-own-in-None : goal.returns-in_ok-own-in-None
 returns-in_ok-own-in-None c = λ r spots.
     let j = c.args.judged in
     subst (λ (t : List ℕ). IsDeclaredText j.definition.now j.text.now j.tree.now r c.args.name.now t)
-    (sym c.in_ok-own-in-None.ensures) (declared_nowhere (sym c.in_ok-found.ensures ∙ c.in-None.is))
+    (sym c.in_ok-own-in-None.ensures.ok) (declared_nowhere (sym c.in_ok-found.ensures ∙ c.in-None.is))

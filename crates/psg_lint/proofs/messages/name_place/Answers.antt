@@ -1,4 +1,4 @@
-use Rattle.std.proofs.Common.{ap, subst, ◌∙◌}
+use Rattle.std.proofs.Common.{subst}
 use Rattle.psg_program.specs.Places.{IsAt}
 use Rattle.psg_lint.proofs.MessageLaws.{byte_is}
 use Rattle.psg_lint.proofs.messages.name_place.Goals as goal
@@ -9,6 +9,6 @@ returns c = λ r spots.
       c.place_of-place.result.line,
       c.place_of-place.result.column,
       subst (λ b. IsAt j.text.now b c.place_of-place.result.line c.place_of-place.result.column)
-          (byte_is j c.requires r spots c.args.name.now.path c.args.name.now.number c.in_ok-byte.byte c.in_ok-byte.ensures) c.place_of-place.ensures,
+          (byte_is j c.requires.judged r spots c.args.name.now.path c.args.name.now.number c.in_ok-byte.byte c.in_ok-byte.ensures) c.place_of-place.ensures,
       c.in_ok-own.ensures.ok,
     )

@@ -1,7 +1,5 @@
-use Rattle.std.proofs.Common.{List, ℕ, sym, subst, take, ◌∙◌}
+use Rattle.std.proofs.Common.{sym, subst, take, ◌∙◌}
 use Rattle.psg_places.specs.declared.place.Place.TheVariants.{Node}
-use Rattle.psg_terms.specs.Terms.{Term}
-use Rattle.psg_wanted.specs.Texts.{node_message}
 use Rattle.psg_lint.specs.Blamed.{IsMessage, of_node}
 use Rattle.psg_lint.specs.Judged.{fresh_of}
 use Rattle.psg_lint.proofs.MessageLaws.{node_before, node_is, same_sorted, told_both}

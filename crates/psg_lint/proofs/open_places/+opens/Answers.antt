@@ -1,13 +1,14 @@
 use Rattle.std.proofs.Common.{◌≡◌, ◌+◌, ◌*◌, ◌++◌, ◌∷◌, [], List, Some, false, append-nil, append_assoc, ap, arith, refl, sym, subst, ◌∙◌}
 use Rattle.psg_grammar.specs.Fragments.{hole, operator}
 use Rattle.psg_grammar.specs.Marks.{nodes_from}
-use Rattle.psg_grammar.specs.Paths.{Path, node_at}
+use Rattle.psg_grammar.specs.Paths.{IsList, Path, node_at}
 use Rattle.psg_tree.specs.declared.tree.Part.{Part}
 use Rattle.psg_tree.specs.Shapes.{height, list_of, tree_of, with_part, with_parts}
 use Rattle.psg_tree.proofs.Heights.{element_in, height-list_of, list_height, op_height, part_in}
 use Rattle.psg_recover.specs.declared.finding.Finding.{Finding}
 use Rattle.psg_lint.specs.OpenPlaces.{AreNoted, IsNoted, none_noted}
 use Rattle.psg_lint.specs.Opens.{IsPartThere, part_nodes}
+use Rattle.psg_lint.proofs.EndLaws.{is_a_list}
 use Rattle.psg_lint.proofs.OpenLaws.{count_more, element_there, elements_all, elements_more, elements_none, part_there, parts_all}
 use Rattle.psg_lint.proofs.OpenLaws.{hole_alone, list_whole, operator_whole, parts_more, parts_none, sub_lower}
 use Rattle.psg_lint.proofs.open_places.+opens.Goals as goal
@@ -22,7 +23,7 @@ tell_part-tell_node-requires g t c κs within =
         within,
         (
           c.requires.program,
-          ap (node_at root) (c.as_slice.ensures.value ∙ c.in_ok-inner.ensures)
+          ap (node_at root) (c.as_slice.ensures.value ∙ c.in_ok-inner-in-Sub.ensures)
               ∙ subst (IsPartThere root c.args.path.now c.args.child) c.in-Sub.is c.requires.there,
         ),
       ),
@@ -35,7 +36,7 @@ tell_part-returns-in_ok-tell_node-in-Sub g t c = λ r is.
       told,
       e,
       subst (λ (p : Part). AreNoted j.definition.now j.tree.now r (part_nodes c.args.path.now c.args.child p) told) (sym c.in-Sub.is)
-          (subst (λ (q : Path). AreNoted j.definition.now j.tree.now r (nodes_from q c.in-Sub.tree) told) (c.as_slice.ensures.value ∙ c.in_ok-inner.ensures) h),
+          (subst (λ (q : Path). AreNoted j.definition.now j.tree.now r (nodes_from q c.in-Sub.tree) told) (c.as_slice.ensures.value ∙ c.in_ok-inner-in-Sub.ensures) h),
     )
 
 pub tell_part-returns-in-Name : goal.tell_part-returns-in-Name
@@ -193,6 +194,10 @@ tell_node-returns-in_ok-tell_parts-in-Op g t c = λ r is.
           (sym (sym c.shape.ensures ∙ ap tree_of c.in-Op.is ∙ ap (with_parts (operator c.in-Op.op)) (sym c.as_slice.ensures))) h,
     )
 
+pub tell_node-tell_list-requires-clause-list : goal.tell_node-tell_list-requires-clause-list
+tell_node-tell_list-requires-clause-list g t c =
+    subst IsList (sym (sym c.shape.ensures ∙ ap tree_of c.in-List.is)) (is_a_list c.in-List.list c.in-List.elements c.in-List.unfinished)
+
 pub tell_node-tell_elements-requires : goal.tell_node-tell_elements-requires
 tell_node-tell_elements-requires g t c κs within =
     let d : 3 * height c.args.tree.now + 2 ≡ t = c.decreases in
@@ -201,7 +206,7 @@ tell_node-tell_elements-requires g t c κs within =
     let f = height-list_of 0 c.in-List.elements c.in-List.unfinished false in
     let same : c.args.tree.now ≡ list_of c.in-List.list c.as_slice-in-List.result.now c.in-List.unfinished =
     sym c.shape.ensures ∙ ap tree_of c.in-List.is ∙ ap (λ es. list_of c.in-List.list es c.in-List.unfinished) (sym c.as_slice-in-List.ensures) in
-    (omega (arith, d, e, p, f), (within, (c.requires.program, (c.in-List.list, (c.in-List.unfinished, c.requires.there ∙ ap Some same)))))
+    (omega (arith, d, e, p, f), (within, (c.requires.program, (c.in-List.list, c.in-List.unfinished, c.requires.there ∙ ap Some same))))
 
 pub tell_node-returns-in_ok-tell_elements-in-List : goal.tell_node-returns-in_ok-tell_elements-in-List
 tell_node-returns-in_ok-tell_elements-in-List g t c = λ r is.

@@ -12,8 +12,8 @@ as_list-known-requires-clause-formed g c =
 pub unreachable-requires : goal.unreachable-requires
 unreachable-requires g c = c.as_list-known.ensures.none c.in_default.is c.requires.list
 
-pub returns-then-not-list-unfinished : goal.returns-then-not-list-unfinished
-returns-then-not-list-unfinished g c = λ r is.
+pub returns-then-not-list : goal.returns-then-not-list
+returns-then-not-list g c = λ r is.
     let j = c.args.own.judged in
     let own = listed_is j.definition.now c.args.tree.now c.as_list-known.result c.in-Some.list c.in-Some.is c.as_list-known.ensures.some in
     let no : c.in-Some.list.unfinished ≡ false = search rules in (

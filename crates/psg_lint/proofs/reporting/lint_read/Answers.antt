@@ -6,14 +6,16 @@ use Rattle.psg_lint.proofs.ReportLaws.{linting_of, read_text}
 use Rattle.psg_lint.proofs.reporting.lint_read.Goals as goal
 
 pub of-requires : goal.of-requires
-of-requires g c = subst IsSound (sym c.definition.ensures.same) c.definition.ensures.sound
+of-requires g c = record { sound = subst IsSound (sym c.definition.ensures.same) c.definition.ensures.sound }
 
 pub own_tokens-requires : goal.own_tokens-requires
 own_tokens-requires g c = record {
-  sound = subst IsSound (sym c.definition.ensures.same) c.definition.ensures.sound;
-  spaces = c.spaces.ensures c.definition.result.now
-      (subst (λ (d : Definition). AreTables d c.parts.result.now.tables) (c.parts.ensures.definition ∙ sym c.definition.ensures.same)
-      c.parts.ensures.parts.tables);
+  known = record {
+    sound = subst IsSound (sym c.definition.ensures.same) c.definition.ensures.sound;
+    spaces = c.spaces.ensures c.definition.result.now
+        (subst (λ (d : Definition). AreTables d c.parts.result.now.tables) (c.parts.ensures.definition ∙ sym c.definition.ensures.same)
+        c.parts.ensures.parts.tables);
+  };
 }
 
 pub lint_tokens-requires-clause-linting : goal.lint_tokens-requires-clause-linting

@@ -26,13 +26,13 @@ pub returns-in_ok-made-in-Some : goal.returns-in_ok-made-in-Some
 returns-in_ok-made-in-Some g c =
     let l = c.args.linting in
     let stops = c.in_ok-stops.stops in
-    let (told, limited, e, judged) = c.in_ok-more.ensures in
-    judged_report l.language.now l.reader.kind l.text.now stops.told.items told _ c.as_slice.result.now limited c.in_ok-more.more
+    let (told, limited, e, are) = c.in_ok-more-in-Some.ensures in
+    judged_report l.language.now l.reader.kind l.text.now stops.told.items told _ c.as_slice.result.now limited c.in_ok-more-in-Some.more
     c.in_ok-made-in-Some.made
     (last_row l.language.now l.reader.kind l.text.now stops.told.items (stops_last stops) c.in-Some.row.items c.as_slice.result.now
     (stops_of l c.requires.linting c.args.tokens.items stops.told.items (stops_last stops) c.requires.tokens c.in_ok-stops.ensures)
     (ap tokens_in c.in-Some.is) c.as_slice.ensures.value)
-    e judged c.in_ok-made-in-Some.ensures.order c.in_ok-made-in-Some.ensures.more
+    e are c.in_ok-made-in-Some.ensures.order c.in_ok-made-in-Some.ensures.more
 
 pub returns-in_ok-made-in-None : goal.returns-in_ok-made-in-None
 returns-in_ok-made-in-None g c =

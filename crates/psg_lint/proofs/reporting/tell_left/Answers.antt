@@ -27,10 +27,11 @@ returns g c =
     let h = c.requires.linting in
     let (nodes, read, ranges) = c.requires.read in
     let r : Read = record { tokens = c.args.tokens.now; whole = c.args.parsed.now.tree; nodes = nodes } in
-    let (told, e, limited, found) = c.in_ok-more.ensures r (record { known = h.reader.known; tokens = refl; whole = refl; nodes = ranges }) in (
+    let (told, e, (limited, found)) = c.in_ok-more.ensures r (record { known = h.reader.known; tokens = refl; whole = refl; nodes = ranges }) in (
       told,
       limited,
       e,
       judged_left l.language.now l.reader.known.definition.now l.reader.kind l.text.now (has_error c.args.found.now.items) limited c.in_ok-more.more
-          c.args.tokens.now c.args.parsed.now.tree c.args.tree.now nodes told h.same c.requires.parsed read c.requires.tree c.requires.small found,
+          c.args.tokens.now c.args.parsed.now.tree c.args.tree.now nodes told h.same c.requires.parsed read c.requires.tree
+          c.requires.formed c.requires.small found,
     )

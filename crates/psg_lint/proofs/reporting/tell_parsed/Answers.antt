@@ -9,7 +9,7 @@ use Rattle.psg_lint.proofs.ReportLaws.{left_is}
 use Rattle.psg_lint.proofs.reporting.tell_parsed.Goals as goal
 
 pub left_out-requires : goal.left_out-requires
-left_out-requires g c = c.requires.linting.reader.known
+left_out-requires g c = record { known = c.requires.linting.reader.known }
 
 pub returns-then-big : goal.returns-then-big
 returns-then-big g c =

@@ -9,8 +9,8 @@ returns-in_default g c = λ r is.
     none_suspect (def_of w) (tree_in w) r (fresh_of w) w.kept.now c.args.number w.places.now c.args.path.now c.args.name c.in_ok-found.found
     c.requires.wrong.places c.requires.place c.in_ok-found.ensures c.in_default.is
 
-pub returns-then-not-own-declares : goal.returns-then-not-own-declares
-returns-then-not-own-declares g c = λ r is.
+pub returns-then-not-own : goal.returns-then-not-own
+returns-then-not-own g c = λ r is.
     let w = c.args.wrong in
     used_suspect (def_of w) (tree_in w) r (fresh_of w) w.kept.now c.args.number w.places.now c.args.path.now c.args.name c.in_ok-found.found
     c.in-Some.own c.requires.wrong.places c.requires.place c.in_ok-found.ensures c.in-Some.is

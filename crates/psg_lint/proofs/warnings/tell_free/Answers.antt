@@ -1,4 +1,4 @@
-use Rattle.std.proofs.Common.{◌++◌, [], take, append-nil, ap, sym, ◌∙◌, arith}
+use Rattle.std.proofs.Common.{◌++◌, append-nil, ap, sym, ◌∙◌, arith}
 use Rattle.std.proofs.lemmas.List.{take_all}
 use Rattle.psg_lint.specs.Warnings.{warnings}
 use Rattle.psg_recover.specs.Spotted.{read_by}
