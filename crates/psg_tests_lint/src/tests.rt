@@ -86,7 +86,7 @@ const FILES: &[(&str, &str)] = &[
     ),
     (
         "skip skip",
-        "p:1:6: error: unexpected `skip`, expected end of the text\n",
+        "p:1:6: error: unexpected `skip`, expected the end of the text\n",
     ),
     ("skip #", "p:1:6: error: this is no token of the language\n"),
     (
