@@ -1,5 +1,0 @@
-//! Questions about programs of a small language, worked by hand. It has tests alone.
-#![tactic(auto)]
-
-#[cfg(test)]
-mod tests;
