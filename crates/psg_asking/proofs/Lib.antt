@@ -1,5 +1,0 @@
-pub mod AskedLaws
-pub mod ProgramLaws
-pub mod PutLaws
-pub mod QuestionLaws
-pub mod WordLaws

@@ -1,4 +1,0 @@
-pub mod Asked
-pub mod Programs
-pub mod Putting
-pub mod Told

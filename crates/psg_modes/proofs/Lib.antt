@@ -1,2 +1,0 @@
-pub mod CharLaws
-pub mod NameLaws
