@@ -28,6 +28,8 @@ use Rattle.psg_class.proofs.Law.{only_trees}
 use Rattle.psg_cache.specs.declared.note.NoteFault.{NoteFault}
 use Rattle.psg_cache.specs.declared.note.NoteFault.TheVariants as faults
 use Rattle.psg_cache.specs.Notes.{IsNoteFault, IsWithin}
+use Rattle.psg_completions.specs.Conditions.{HasTrueRows}
+use Rattle.psg_completions.proofs.Law.{open_or_completable}
 use Rattle.psg_places.specs.declared.place.Place.{Place}
 use Rattle.psg_places.specs.Answers.{IsOfTree}
 use Rattle.psg_places.specs.Blame.{AreAllAnswers, blamed_in}
@@ -316,59 +318,60 @@ module _ (def : Definition) where
 
     -- ---- the report
 
-    fine_if : (bytes text : List ℕ) (limited more : Bool) (found : List Finding) → IsReport def kind bytes text limited found more
-        → has_error found ≡ false → IsFine def kind bytes
-    fine_if bytes text limited more found (no_text count valid) e = absurd (true≢false e)
-    fine_if bytes text limited more found (no_tokens fault u h) e = absurd (true≢false e)
-    fine_if bytes text limited more found (only_stops stops sorted u h order) e =
-        let (none, last) = stops_none def kind (unmarked bytes) 0 (map (own_spanned def) h.tokens) stops None h.stops
-        (sorted_errors stops sorted order ∙ e) in
-        absurd (none-some (map (own_spanned def) h.tokens) last)
-    fine_if bytes text limited more found (is_judged stops own sorted tokens l m u h are order) e =
-        let (a, b) = errors_of stops own (sorted_errors (stops ++ own) sorted order ∙ e) in
-        let (none, last) = stops_none def kind (unmarked bytes) 0 (map (own_spanned def) h.tokens) stops (Some tokens) h.stops a in
-        let fine = judged_good (unmarked bytes) (has_error stops) l m tokens own are h.tokens h.are
-        (same_Some tokens (map (own_spanned def) h.tokens) last) a b in record {
-          tree = fine.tree;
-          program = record { is_text = u; is_read = fine.is_read };
-          within = fine.within;
-          good = fine.good;
-        }
+    module _ (rows : HasTrueRows def) where
+      fine_if : (bytes text : List ℕ) (limited more : Bool) (found : List Finding) → IsReport def kind bytes text limited found more
+          → has_error found ≡ false → IsFine def kind bytes
+      fine_if bytes text limited more found (no_text count valid) e = absurd (true≢false e)
+      fine_if bytes text limited more found (no_tokens fault u h) e = absurd (true≢false e)
+      fine_if bytes text limited more found (only_stops stops sorted u h order) e =
+          let (none, last) = stops_none def kind (unmarked bytes) 0 (map (own_spanned def) h.tokens) stops None h.stops
+          (sorted_errors stops sorted order ∙ e) in
+          absurd (none-some (map (own_spanned def) h.tokens) last)
+      fine_if bytes text limited more found (is_judged stops own sorted tokens l m u h are order) e =
+          let (a, b) = errors_of stops own (sorted_errors (stops ++ own) sorted order ∙ e) in
+          let (none, last) = stops_none def kind (unmarked bytes) 0 (map (own_spanned def) h.tokens) stops (Some tokens) h.stops a in
+          let fine = judged_good (unmarked bytes) (has_error stops) l m tokens own are h.tokens h.are
+          (same_Some tokens (map (own_spanned def) h.tokens) last) a b in record {
+            tree = fine.tree;
+            program = record { is_text = u; is_read = fine.is_read };
+            within = fine.within;
+            good = (open_or_completable def ends.sound rows fine.tree kind fine.is_read.formed).0 fine.good;
+          }
 
-    none_if : (bytes text : List ℕ) (limited more : Bool) (found : List Finding) → IsReport def kind bytes text limited found more
-        → IsFine def kind bytes → has_error found ≡ false
-    none_if bytes text limited more found (no_text count valid) fine =
-        absurd (whole_valid (unmarked bytes) count fine.program.is_text valid)
-    none_if bytes text limited more found (no_tokens fault u h) fine =
-        let reads = fine.program.is_read.reads in
-        absurd (no_fault_with_tokens (fixed_words def) (chars (unmarked bytes)) 0 reads.tokens fault reads.are h)
-    none_if bytes text limited more found (only_stops stops sorted u h order) fine =
-        let p = fine.program.is_read in
-        let loses = programs_lose_nothing def ends class kind (unmarked bytes) fine.tree p.nesting p.reads in
-        absurd (none-some loses.tokens (loses.stops stops None h).1)
-    none_if bytes text limited more found (is_judged stops own sorted tokens l m u h are order) fine =
-        let p = fine.program.is_read in
-        let ts = p.reads.tokens in
-        let f = fine.tree in
-        let one : h.tokens ≡ ts = only_tokens (fixed_words def) (chars (unmarked bytes)) 0 h.tokens ts h.are p.reads.are in
-        let same : tokens_of (map (own_spanned def) ts) ≡ tokens_of ts =
-        own_same def ends.sound ts (all_yielded def f kind 0 p.nesting (tokens_of ts) p.reads.yields) in
-        let there : Yields (quiet def) f kind 0 p.nesting (tokens_of (map (own_spanned def) ts)) =
-        subst (Yields (quiet def) f kind 0 p.nesting) (sym same) (yields_there def f kind 0 p.nesting (tokens_of ts) p.reads.yields) in
-        let (none, last) = no_stops def kind (unmarked bytes) 0 (map (own_spanned def) ts) stops (Some tokens)
-        (subst (λ (us : List Spanned). AreStops def kind (unmarked bytes) 0 (map (own_spanned def) us) stops (Some tokens)) one h.stops)
-        (f, p.nesting, there) in
-        let row : tokens ≡ map (own_spanned def) ts = same_Some tokens (map (own_spanned def) ts) last in
-        let left = (programs_lose_nothing def ends class kind (unmarked bytes) f p.nesting p.reads).left in
-        let clean : has_error stops ≡ false = ap has_error none in
-        sym (sorted_errors (stops ++ own) sorted order)
-        ∙ none_joined stops own clean
-        (judged_none (unmarked bytes) (has_error stops) l m tokens own are clean f p.nesting
-        (subst (λ (us : List Spanned). Yields (quiet def) f kind 0 p.nesting (tokens_of us)) (sym row) there) left p.depth p.brackets p.small
-        fine.within fine.good)
+      none_if : (bytes text : List ℕ) (limited more : Bool) (found : List Finding) → IsReport def kind bytes text limited found more
+          → IsFine def kind bytes → has_error found ≡ false
+      none_if bytes text limited more found (no_text count valid) fine =
+          absurd (whole_valid (unmarked bytes) count fine.program.is_text valid)
+      none_if bytes text limited more found (no_tokens fault u h) fine =
+          let reads = fine.program.is_read.reads in
+          absurd (no_fault_with_tokens (fixed_words def) (chars (unmarked bytes)) 0 reads.tokens fault reads.are h)
+      none_if bytes text limited more found (only_stops stops sorted u h order) fine =
+          let p = fine.program.is_read in
+          let loses = programs_lose_nothing def ends class kind (unmarked bytes) fine.tree p.nesting p.reads in
+          absurd (none-some loses.tokens (loses.stops stops None h).1)
+      none_if bytes text limited more found (is_judged stops own sorted tokens l m u h are order) fine =
+          let p = fine.program.is_read in
+          let ts = p.reads.tokens in
+          let f = fine.tree in
+          let one : h.tokens ≡ ts = only_tokens (fixed_words def) (chars (unmarked bytes)) 0 h.tokens ts h.are p.reads.are in
+          let same : tokens_of (map (own_spanned def) ts) ≡ tokens_of ts =
+          own_same def ends.sound ts (all_yielded def f kind 0 p.nesting (tokens_of ts) p.reads.yields) in
+          let there : Yields (quiet def) f kind 0 p.nesting (tokens_of (map (own_spanned def) ts)) =
+          subst (Yields (quiet def) f kind 0 p.nesting) (sym same) (yields_there def f kind 0 p.nesting (tokens_of ts) p.reads.yields) in
+          let (none, last) = no_stops def kind (unmarked bytes) 0 (map (own_spanned def) ts) stops (Some tokens)
+          (subst (λ (us : List Spanned). AreStops def kind (unmarked bytes) 0 (map (own_spanned def) us) stops (Some tokens)) one h.stops)
+          (f, p.nesting, there) in
+          let row : tokens ≡ map (own_spanned def) ts = same_Some tokens (map (own_spanned def) ts) last in
+          let left = (programs_lose_nothing def ends class kind (unmarked bytes) f p.nesting p.reads).left in
+          let clean : has_error stops ≡ false = ap has_error none in
+          sym (sorted_errors (stops ++ own) sorted order)
+          ∙ none_joined stops own clean
+          (judged_none (unmarked bytes) (has_error stops) l m tokens own are clean f p.nesting
+          (subst (λ (us : List Spanned). Yields (quiet def) f kind 0 p.nesting (tokens_of us)) (sym row) there) left p.depth p.brackets p.small
+          fine.within ((open_or_completable def ends.sound rows f kind p.formed).1 fine.good))
 
-pub fine_exactly : (def : Definition) → CanEnd def → IsClass def → IsFineExactly def
-fine_exactly def ends class kind bytes text limited more found report = (
-  fine_if def ends class kind bytes text limited more found report,
-  none_if def ends class kind bytes text limited more found report,
+pub fine_exactly : (def : Definition) → CanEnd def → IsClass def → HasTrueRows def → IsFineExactly def
+fine_exactly def ends class rows kind bytes text limited more found report = (
+  fine_if def ends class kind rows bytes text limited more found report,
+  none_if def ends class kind rows bytes text limited more found report,
 )

@@ -4,6 +4,7 @@ use Rattle.std.specs.Str.{IsUtf8, IsValidUpTo}
 use Rattle.psg_grammar.specs.declared.types.Kind.{Kind}
 use Rattle.psg_grammar.specs.declared.types.Definition.{Definition}
 use Rattle.psg_grammar.specs.Fragments.{Fragment}
+use Rattle.psg_grammar.specs.Legal.{IsCompletable}
 use Rattle.psg_grammar.specs.Open.{IsOpen}
 use Rattle.psg_grammar.specs.Sizes.{IsBig}
 use Rattle.psg_grammar.specs.WellFormed.{WellFormed, fixed_words}
@@ -79,13 +80,14 @@ HasOneReport def = (kind : Kind) (bytes one two : List ℕ) (first second : List
     → IsReport def kind bytes one false first more → IsReport def kind bytes two false second less
     → (one ≡ two) × (first ≡ second) × (more ≡ less)
 
--- No line is an error exactly where the bytes are a program of the kind, within the limits, that has a completion.
+-- The bytes are a program of the kind, within the limits, that has a legal completion.
 pub record IsFine (def : Definition) (kind : Kind) (bytes : List ℕ) : Type 0 where
   pub tree : Fragment
   pub program : IsProgram def kind bytes tree
   pub within : IsWithin def tree
-  pub good : IsOpen def tree
+  pub good : IsCompletable def tree
 
+-- No line is an error exactly where the bytes are such a program.
 abbrev pub IsFineExactly : Definition → Type 0
 IsFineExactly def = (kind : Kind) (bytes text : List ℕ) (limited more : Bool) (found : List Finding)
     → IsReport def kind bytes text limited found more → (has_error found ≡ false) ↔ IsFine def kind bytes

@@ -68,7 +68,7 @@ abbrev pub ProgramsLoseNothing : Definition → Type 0
 ProgramsLoseNothing def = (kind : Kind) (text : List ℕ) (f : Fragment) (nesting : ℕ) → ReadsAs def kind 0 text f nesting
     → LosesNothing def kind text f
 
--- Where only the first stop is told, it is that of `format`.
+-- The first of the stops is what `format` tells. There are none where the text is too deep or too large.
 abbrev pub BeginsAsFormat : Definition → Type 0
 BeginsAsFormat def = (kind : Kind) (text : List ℕ) (byte : ℕ) (message : List ℕ)
     → HasNoProgram def kind text byte message → (stops : List Finding) (last : Option (List Spanned))
