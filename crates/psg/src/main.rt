@@ -30,6 +30,8 @@ const HELP: &str = "psg: editors of small languages, from their definitions
                         from 1 to 400, by the groups and breaks of the file LAY
   psg self SCRIPT OUT   runs the script in silence on the language of definitions, writes the definition that it builds to
                         the file OUT, and says what check says of it
+  psg lint DEF KIND FILE   tells what is wrong in the program of the file FILE, which is of the kind KIND, each thing at its
+                        line and column; where nothing is wrong, what is open
   psg format DEF KIND FILE   writes the program of the file FILE, which is of the kind KIND, as it is to be laid out, or
                         where it is no program; with --check at the end, in which line it is not laid out so
   psg explain DEF SCRIPT   runs the script in silence, and says why the program then has no completion: ok, or the first
@@ -44,7 +46,10 @@ By the launcher ./psg alone:
   ./psg check --warn DEF   says also what is accepted and likely a slip
   ./psg check --all DEF    says the first fault of each line
   ./psg test DEF FILE.. plays the examples of the files on the definition
-  ./psg sample DEF KIND N SEED   writes N random programs of the kind that are right
+  ./psg lint DEF KIND FILE --json   writes what lint tells as JSON
+  ./psg format DEF KIND FILE --write   writes the file itself as it is to be laid out
+  ./psg sample DEF KIND N SEED   writes N random programs of the kind that are right; with --wrong in front of DEF, each
+                        with one place that is wrong
   ./psg tree DEF KIND FILE   writes the tree of a program file as JSON
   ./psg --explain WORDS..   says on standard error, in words, what is refused; without the word where that is a terminal
   ./psg --build         proves the program and builds it
