@@ -30,7 +30,7 @@ const HELP: &str = "psg: editors of small languages, from their definitions
                         from 1 to 400, by the groups and breaks of the file LAY
   psg self SCRIPT OUT   runs the script in silence on the language of definitions, writes the definition that it builds to
                         the file OUT, and says what check says of it
-  psg lint DEF KIND FILE   tells what is wrong in the program of the file FILE, which is of the kind KIND, each thing at its
+  psg lint DEF KIND FILE   tells what is wrong in the program of the file FILE, of the kind KIND, each thing at its
                         line and column; where nothing is wrong, what is open
   psg format DEF KIND FILE   writes the program of the file FILE, which is of the kind KIND, as it is to be laid out, or
                         where it is no program; with --check at the end, in which line it is not laid out so
