@@ -1,0 +1,5 @@
+pub mod AskedLaws
+pub mod ProgramLaws
+pub mod PutLaws
+pub mod QuestionLaws
+pub mod WordLaws

@@ -1,0 +1,4 @@
+pub mod Asked
+pub mod Programs
+pub mod Putting
+pub mod Told

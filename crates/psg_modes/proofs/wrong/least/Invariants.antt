@@ -1,0 +1,6 @@
+use Rattle.std.proofs.Common.{◌≡◌, None, drop, option_copied}
+use Rattle.psg_modes.specs.Wrong.{any, least_with}
+use Rattle.psg_modes.proofs.wrong.least.Given as goal
+
+abbrev pub invariant-loop-place : goal.invariant-loop-place
+invariant-loop-place l = least_with any None l.paths ≡ least_with any (option_copied l.best) (drop l.place l.paths)
