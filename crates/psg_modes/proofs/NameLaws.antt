@@ -5,7 +5,7 @@ use Rattle.psg_grammar.specs.Fragments.{Fragment, operator}
 use Rattle.psg_tree.specs.declared.tree.Part.{Part}
 use Rattle.psg_tree.specs.declared.tree.Part.TheVariants.{Sub, Name, Number, Text}
 use Rattle.psg_tree.specs.declared.tree.Shape.{Shape}
-use Rattle.psg_tree.specs.declared.tree.Shape.TheVariants.{Op, List as ListOf, Hole}
+use Rattle.psg_tree.specs.declared.tree.Shape.TheVariants.{Op, List as ListOf}
 use Rattle.psg_tree.specs.Shapes.{list_of, tree_of, with_part, with_parts}
 use Rattle.psg_modes.specs.Wrong.{name_in, names_in, names_of}
 

@@ -1,0 +1,5 @@
+//! Questions about programs of a small language, worked by hand. It has tests alone.
+#![tactic(auto)]
+
+#[cfg(test)]
+mod tests;
