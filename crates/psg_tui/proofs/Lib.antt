@@ -1,0 +1,17 @@
+mod AnswerLaws
+mod CommandLaws
+mod DueLaws
+mod EditingLaws
+mod FacedLaws
+mod LeadingLaws
+mod NextLaws
+mod OpeningLaws
+mod PagingLaws
+mod PictureLaws
+mod PressLaws
+mod ReplyLaws
+mod RunningLaws
+mod SavingLaws
+mod ShownLaws
+mod TuiLaws
+mod TurnLaws

@@ -1,0 +1,26 @@
+use Rattle.std.proofs.Common.{ap, ◌∙◌}
+use Rattle.std.specs.Prelude.{true, false}
+use Rattle.psg_modes.specs.Turning.{is_page_key, led}
+use Rattle.psg_tui.proofs.EditingLaws.{tree_is}
+use Rattle.psg_tui.proofs.PagingLaws.{paged_so}
+use Rattle.psg_tui.proofs.TurnLaws.{led_other}
+use Rattle.psg_tui.proofs.editing.Editing.led.Goals as goal
+
+pub returns-in_ok-path-in-PageDown : goal.returns-in_ok-path-in-PageDown
+returns-in_ok-path-in-PageDown c =
+    λ tree at.
+    paged_so c.args.self.now tree at c.requires.settled c.formed.ensures c.args.key (ap is_page_key c.in-PageDown.is) true
+    c.in_ok-path-in-PageDown.path c.in_ok-path-in-PageDown.ensures
+
+pub returns-in_ok-path-in-PageUp : goal.returns-in_ok-path-in-PageUp
+returns-in_ok-path-in-PageUp c =
+    λ tree at.
+    paged_so c.args.self.now tree at c.requires.settled c.formed.ensures c.args.key (ap is_page_key c.in-PageUp.is) false
+    c.in_ok-path-in-PageUp.path c.in_ok-path-in-PageUp.ensures
+
+pub returns-in_ok-path-in_default : goal.returns-in_ok-path-in_default
+returns-in_ok-path-in_default c =
+    λ tree at.
+    led_other tree c.args.self.now.face.chosen c.args.key c.in_ok-path-in_default.path c.in_default.not-PageDown
+    c.in_default.not-PageUp (c.in_ok-path-in_default.ensures ∙ ap (λ t. led t c.args.self.now.face.chosen c.args.key)
+    (c.tree.ensures ∙ tree_is c.args.self.now c.note_of-note.result.now c.note_of-note.ensures tree at))

@@ -1,0 +1,11 @@
+pub mod Editing
+pub mod Found
+pub mod Pressing
+pub mod Replied
+pub mod Running
+pub mod Saving
+pub mod Scrolled
+pub mod Showing
+pub mod Unasked
+pub mod Views
+pub mod Words
