@@ -1,0 +1,150 @@
+-- What becomes of the documents that are open.
+use Rattle.std.proofs.Common.{◌≡◌, ◌<◌, ◌≤◌, ◌+◌, ℕ, zero, suc, Bool, true, false, cond, List, [], ◌∷◌, ◌++◌, length, get_or, set, Option, Some, None, refl, inl, inr, sym, ◌∙◌, ap, subst, arith}
+use Rattle.std.specs.Prelude.{nat_lt}
+use Rattle.std.specs.List.{find, position, position_or_len, remove}
+use Rattle.std.specs.Option.{option_or, unwrap_or}
+use Rattle.std.specs.Prelude.{IfSome}
+use Rattle.std.proofs.lemmas.Bool.{cases_lt, lt-ltb}
+use Rattle.std.proofs.lemmas.Grind.{common_steps}
+use Rattle.std.proofs.lemmas.List.Edits.{length-remove}
+use Rattle.std.proofs.lemmas.List.Folds.{find-append, find-set, find_at, find_past}
+use Rattle.std.proofs.lemmas.List.Quantifiers.{position-Some}
+use Rattle.std.proofs.lemmas.List.Sums.{position_or_len_is}
+use Rattle.std.proofs.lemmas.Option.{none-some, slice_get-get_or, slice_get_past}
+use Rattle.std.proofs.lemmas.Slice.Eq.{bytes_eq-Decides}
+use Rattle.std.specs.List.{slice_get}
+use Rattle.psg_server.specs.declared.documents.Document.{Document}
+use Rattle.psg_server.specs.Documents.{Becomes, document_at, is_at}
+
+false_if : (b : Bool) → (b ≡ true → ⊥) → b ≡ false
+false_if true wrong = absurd (wrong refl)
+false_if false wrong = refl
+
+has_address : (a : List ℕ) (d : Document) → is_at a d ≡ true → d.address ≡ a
+has_address a d t = (bytes_eq-Decides d.address a).0 t
+
+at_address : (a : List ℕ) (d : Document) → d.address ≡ a → is_at a d ≡ true
+at_address a d e = (bytes_eq-Decides d.address a).1 e
+
+-- a document with another address
+elsewhere : (a other : List ℕ) (d : Document) → d.address ≡ a → (other ≡ a → ⊥) → is_at other d ≡ false
+elsewhere a other d e apart = false_if (is_at other d) (λ t. apart (sym (has_address other d t) ∙ e))
+
+first_place : (p : Document → Bool) (xs : List Document) (i : ℕ) (d : Document) → position p xs ≡ Some i
+    → i ≡ position_or_len p xs
+first_place p xs i d e =
+    let found = position-Some p xs i d e in
+    sym (position_or_len_is p xs i d (omega (arith, found.0)) found.2 (λ _. found.1))
+
+past_all : (n size : ℕ) → None ≡ cond (nat_lt n size) (Some n) None → size ≤ n
+past_all n size e = elim (cases_lt n size) [
+  | inl lt ↦ absurd (none-some n (e ∙ ap (λ b. cond b (Some n) None) (lt-ltb n size lt)))
+  | inr ge ↦ ge
+]
+
+none_found : (p : Document → Bool) (xs : List Document) → None ≡ position p xs → find p xs ≡ None
+none_found p xs e =
+    find_at p xs ∙ slice_get_past xs (position_or_len p xs) (past_all (position_or_len p xs) (length xs) e)
+
+pub within_is : {X : Type 0} (p : X → Bool) (xs : List X) (o : Option ℕ) → o ≡ position p xs
+    → IfSome o (λ i. i < length xs)
+within_is p xs None e = tt
+within_is p xs (Some i) e = let back : position p xs ≡ Some i = sym e in grind (arith, common_steps)
+
+-- ---- a document is looked up
+
+pub found_at : (a : List ℕ) (xs : List Document) (i : ℕ) (d : Document) → Some i ≡ position (is_at a) xs
+    → Some (get_or xs i d) ≡ document_at a xs
+found_at a xs i d is =
+    let found = position-Some (is_at a) xs i d (sym is) in
+    sym (find_at (is_at a) xs ∙ ap (λ n. slice_get xs n) (sym (first_place (is_at a) xs i d (sym is)))
+    ∙ slice_get-get_or xs i d found.0)
+
+pub found_none : (a : List ℕ) (xs : List Document) → None ≡ position (is_at a) xs → None ≡ document_at a xs
+found_none a xs is = sym (none_found (is_at a) xs is)
+
+-- ---- a document is put
+
+pub put_at : (a : List ℕ) (xs : List Document) (i : ℕ) (d : Document) → d.address ≡ a
+    → Some i ≡ position (is_at a) xs → Becomes a (Some d) xs (set xs i d)
+put_at a xs i d e is =
+    let found = position-Some (is_at a) xs i d (sym is) in
+    record {
+      here = find-set (is_at a) xs i d (first_place (is_at a) xs i d (sym is)) found.0 (at_address a d e);
+      others = λ other apart.
+          find_past (is_at other) xs i d d
+          (elsewhere a other (get_or xs i d) (has_address a (get_or xs i d) found.1) apart)
+          (elsewhere a other d e apart);
+    }
+
+or_none : (o : Option Document) → option_or o None ≡ o
+or_none None = refl
+or_none (Some d) = refl
+
+pub put_behind : (a : List ℕ) (xs : List Document) (d : Document) → d.address ≡ a → None ≡ position (is_at a) xs
+    → Becomes a (Some d) xs (xs ++ d ∷ [])
+put_behind a xs d e is = record {
+  here =
+      find-append (is_at a) xs (d ∷ [])
+      ∙ ap (λ o. option_or o (find (is_at a) (d ∷ []))) (none_found (is_at a) xs is)
+      ∙ ap (λ b. cond b (Some d) None) (at_address a d e);
+  others = λ other apart.
+      find-append (is_at other) xs (d ∷ [])
+      ∙ ap (λ b. option_or (find (is_at other) xs) (cond b (Some d) None)) (elsewhere a other d e apart)
+      ∙ or_none (find (is_at other) xs);
+}
+
+-- ---- a document is closed
+
+find_removed : (p : Document → Bool) (xs : List Document) (i : ℕ) (d : Document) → i < length xs
+    → p (get_or xs i d) ≡ false → find p (remove xs i) ≡ find p xs
+find_removed p [] i d lt f = absurd (omega (arith, lt))
+find_removed p (x ∷ xs) zero d lt f = sym (ap (λ b. cond b (Some x) (find p xs)) f)
+find_removed p (x ∷ xs) (suc i) d lt f = ap (cond (p x) (Some x)) (find_removed p xs i d (omega (arith, lt)) f)
+
+-- at all other addresses is what was there before
+abbrev pub AreOthers : List ℕ → List Document → List Document → Type 0
+AreOthers a old new = (other : List ℕ) → (other ≡ a → ⊥) → document_at other new ≡ document_at other old
+
+pub close_start : (a : List ℕ) (old new : List Document) → new ≡ old → AreOthers a old new
+close_start a old new e = λ other apart. ap (document_at other) e
+
+pub close_step : (a : List ℕ) (old xs new : List Document) (i : ℕ) (d : Document) → AreOthers a old xs
+    → Some i ≡ position (is_at a) xs → new ≡ remove xs i → AreOthers a old new
+close_step a old xs new i d so is e = λ other apart.
+    let found = position-Some (is_at a) xs i d (sym is) in
+    ap (document_at other) e
+    ∙ find_removed (is_at other) xs i d found.0
+    (elsewhere a other (get_or xs i d) (has_address a (get_or xs i d) found.1) apart)
+    ∙ so other apart
+
+pub close_end : (a : List ℕ) (old xs : List Document) → AreOthers a old xs → None ≡ position (is_at a) xs
+    → Becomes a None old xs
+close_end a old xs so is = record {
+  here = none_found (is_at a) xs is;
+  others = so;
+}
+
+-- ---- as the program has them
+
+pub put_at_as : (b : List ℕ) (xs ys : List Document) (i : ℕ) (d : Document) → b ≡ d.address → ys ≡ xs
+    → Some i ≡ position (is_at b) ys → Becomes d.address (Some d) xs (set xs i d)
+put_at_as b xs ys i d named same is =
+    put_at d.address xs i d refl (is ∙ ap (λ (zs : List Document). position (is_at b) zs) same
+    ∙ ap (λ (a : List ℕ). position (is_at a) xs) named)
+
+pub put_behind_as : (b : List ℕ) (xs ys new : List Document) (d : Document) → b ≡ d.address → ys ≡ xs
+    → None ≡ position (is_at b) ys → new ≡ xs ++ d ∷ [] → Becomes d.address (Some d) xs new
+put_behind_as b xs ys new d named same is e =
+    subst (λ (zs : List Document). Becomes d.address (Some d) xs zs) (sym e)
+    (put_behind d.address xs d refl (is ∙ ap (λ (zs : List Document). position (is_at b) zs) same
+    ∙ ap (λ (a : List ℕ). position (is_at a) xs) named))
+
+pub one_less : (p : Document → Bool) (xs ys new : List Document) (i : ℕ) (d : Document) → ys ≡ xs → Some i ≡ position p ys
+    → new ≡ remove xs i → length new < length xs
+one_less p xs ys new i d same is e =
+    let at : position p xs ≡ Some i = sym (is ∙ ap (λ (zs : List Document). position p zs) same) in
+    let inside = (position-Some p xs i d at).0 in
+    let long = length-remove xs i inside in
+    let size : length new ≡ length (remove xs i) = ap (λ (zs : List Document). length zs) e in
+    omega (arith, long, size, inside)

@@ -1,0 +1,7 @@
+mod ApartLaws
+mod DiagnosticLaws
+mod DocumentLaws
+mod EditLaws
+mod FieldLaws
+mod ServeLaws
+mod WordLaws

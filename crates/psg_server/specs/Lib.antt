@@ -1,0 +1,11 @@
+pub mod Answering
+pub mod Apart
+pub mod Capabilities
+pub mod Diagnostics
+pub mod Documents
+pub mod Edits
+pub mod Fields
+pub mod Kept
+pub mod Methods
+pub mod Ranges
+pub mod Told

@@ -1,0 +1,192 @@
+//! The text that a document is to have, as an edit.
+ghost use Rattle.std.specs.Prelude.{ℕ, ◌≡◌, ◌≤◌, ◌↔◌, ◌==◌, List, IfOk, IfSome, IsTrue, Some, cond, drop, length, slice_get, take};
+ghost use Rattle.std.specs.Str.{IsUtf8};
+ghost use Rattle.serde_json.specs.Data.{array, item, no_items, null};
+ghost use Rattle.serde_json.specs.View.{view};
+ghost use Rattle.psg_documents.specs.Positions.{AreStarts, IsLineStart};
+ghost use Rattle.psg_grammar.specs.Kinds.{HasKind};
+ghost use Rattle.psg_grammar.specs.declared.types.Definition.{Definition as Plain};
+ghost use Rattle.psg_grammar.specs.declared.types.Kind.{Kind as PlainKind};
+ghost use Rattle.psg_documents.specs.declared.encoding.Encoding.{Encoding as PlainEncoding};
+ghost use Rattle.psg_program.specs.Programs.{IsProgram, IsProgramFault};
+ghost use Rattle.psg_server.specs.Edits.{IsEdit, IsFormatting, edit_data};
+
+use crate::ranges::{Page, after, range_value};
+use psg_documents::{Encoding, Lines};
+use psg_grammar::Kind;
+use psg_program::{ProgramFault, formatted, read_program};
+use psg_specimen::Language;
+use psg_terms::Steps;
+use psg_tree::Tree;
+use serde_json::{Value, json};
+use std::alloc::{AllocError, Global};
+use std::sync::ledger::Ledger;
+
+/// Returns the byte that both texts have at the place, if it is the same.
+fn common_byte(text: &[u8], wanted: &[u8], place: usize) -> Option<u8>
+    ensures text { IfSome result (λ b. slice_get text.now place ≡ Some b) }
+    ensures wanted { IfSome result (λ b. slice_get wanted.now place ≡ Some b) }
+{
+    let byte = *text.get(place)?;
+    let other = *wanted.get(place)?;
+    if byte == other { Some(byte) } else { None }
+}
+
+/// Returns where the last line begins, after the byte before the place.
+fn start_after(start: usize, byte: u8, next: usize) -> usize
+    ensures { result ≡ cond (byte == 10) next start }
+{
+    if byte == b'\n' { next } else { start }
+}
+
+/// Returns the beginning of the first line in which the text is not the one that is wanted.
+fn same_front(text: &[u8], wanted: &[u8]) -> usize
+    ensures start { IsLineStart text.now result }
+    ensures wanted { IsLineStart wanted.now result }
+    ensures same { take result text.now ≡ take result wanted.now }
+{
+    let mut start = 0;
+    let mut place = 0;
+    'same: while let Some(byte) = common_byte(text, wanted, place) {
+        start = start_after(start, byte, place + 1);
+        place += 1;
+    }
+    start
+}
+
+/// Returns the text from a place on.
+fn rest_of(bytes: &[u8], from: usize) -> &str
+    requires within { from ≤ length bytes.now }
+    requires text { IsUtf8 (drop from bytes.now) }
+    ensures { result.now ≡ drop from bytes.now }
+{
+    match str::from_utf8(after(bytes, from)) {
+        Ok(rest) => rest,
+        Err(_) => unreachable!(),
+    }
+}
+
+/// Returns the edit that puts a text in place of a range.
+fn edit_of(alloc: Global, range: Value, new: &str) -> Result<Value, AllocError>
+    ensures { IfOk result (λ v. view v ≡ edit_data (view range) new.now) }
+{
+    json!(in alloc; {"range": range, "newText": new})
+}
+
+/// Returns the edit that makes the text the one that is wanted.
+fn edit_value(alloc: Global, page: &Page<'_>, wanted: &str) -> Result<Value, AllocError>
+    requires { AreStarts page.now.text.now page.now.lines.now }
+    ensures { IfOk result (λ v. IsEdit page.now.encoding page.now.text.now wanted.now (view v)) }
+{
+    let text = page.text.as_bytes();
+    let bytes = wanted.as_bytes();
+    let from = same_front(text, bytes);
+    let new = rest_of(bytes, from);
+    let range = range_value(alloc, page, from, text.len())?;
+    let edit = edit_of(alloc, range, new)?;
+    Ok(edit)
+}
+
+/// Returns the edit for a text that is not as it is to be.
+fn text_edit(
+    alloc: Global,
+    encoding: Encoding,
+    text: &str,
+    wanted: &str,
+) -> Result<Value, AllocError>
+    ensures { IfOk result (λ v. IsEdit encoding text.now wanted.now (view v)) }
+{
+    let lines = Lines::of(alloc, text)?;
+    let page = Page {
+        encoding,
+        text,
+        lines: &lines,
+    };
+    let edit = edit_value(alloc, &page, wanted)?;
+    Ok(edit)
+}
+
+/// Says whether the texts are equal.
+fn same_text(one: &str, other: &str) -> bool
+    ensures { IsTrue result ↔ (one.now ≡ other.now) }
+{
+    one == other
+}
+
+/// Returns a list with no edit.
+fn none_of(alloc: Global) -> Value
+    ensures { view result ≡ array no_items }
+{
+    Value::Array(Vec::new(alloc))
+}
+
+/// Returns a list with one edit.
+fn one_of(alloc: Global, edit: Value) -> Result<Value, AllocError>
+    ensures { IfOk result (λ v. view v ≡ array (item (view edit) no_items)) }
+{
+    json!(in alloc; [edit])
+}
+
+/// Returns the edits that make the text of the program as it is to be: none, or one.
+fn edits(
+    alloc: Global,
+    language: &Language,
+    encoding: Encoding,
+    text: &str,
+    tree: &Tree,
+) -> Result<Value, AllocError>
+    ensures { IfOk result (λ v. (kind : PlainKind) → IsProgram language.now kind text.now tree.now
+        → IsFormatting language.now kind encoding text.now (view v)) }
+{
+    let wanted = formatted(alloc, language.definition(), tree)?;
+    let own = wanted.as_str();
+    if same_text(text, own) {
+        return Ok(none_of(alloc));
+    }
+    let edit = text_edit(alloc, encoding, text, own)?;
+    let one = one_of(alloc, edit)?;
+    Ok(one)
+}
+
+/// Returns null.
+pub(crate) fn null_value() -> Value
+    ensures { view result ≡ null }
+{
+    Value::Null
+}
+
+/// Returns what `formatting` answers for a text that is no program.
+fn without_program(fault: &ProgramFault) -> Result<Value, AllocError>
+    ensures { IfOk result (λ v. (def : Plain) (kind : PlainKind) (encoding : PlainEncoding) (text : List ℕ)
+        → IsProgramFault def kind text fault.now → IsFormatting def kind encoding text (view v)) }
+{
+    match fault {
+        ProgramFault::Syntax(_) => Ok(null_value()),
+        ProgramFault::Memory => Err(AllocError),
+    }
+}
+
+/// Returns what `formatting` answers for a text that is to be a program of the kind: nothing where it is none, and else the
+/// edits that make it as it is to be. Fails only when out of memory.
+pub(crate) fn formatting<L: Ledger>(
+    alloc: Global,
+    language: &Language,
+    kind: Kind,
+    encoding: Encoding,
+    text: &str,
+    steps: &mut Steps<L>,
+) -> Result<Value, AllocError>
+    requires { HasKind language.now kind }
+    ensures { IfOk result (λ v. IsFormatting language.now kind encoding text.now (view v)) }
+{
+    match read_program(alloc, language, kind, text.as_bytes(), steps) {
+        Ok(program) => {
+            let found = edits(alloc, language, encoding, text, &program.tree)?;
+            Ok(found)
+        }
+        Err(fault) => {
+            let found = without_program(&fault)?;
+            Ok(found)
+        }
+    }
+}

@@ -1,0 +1,186 @@
+//! What the parameters of a message say.
+ghost use Rattle.std.specs.Prelude.{◌≡◌, codes};
+ghost use Rattle.std.specs.List.{list_any};
+ghost use Rattle.std.specs.Option.{option_map};
+ghost use Rattle.serde_json.specs.Find.{as_str};
+ghost use Rattle.serde_json.specs.View.{items_view, view};
+ghost use Rattle.psg_messages.specs.Messages.{given_of};
+ghost use Rattle.psg_server.specs.Fields.{address_in, changed_in, changed_text_in, document_in, encoding_in, fields_in};
+ghost use Rattle.psg_server.specs.Fields.{has_text, is_text, last_of, offered_in, offers, opened_in, opened_text_in};
+ghost use Rattle.psg_server.specs.Fields.{text_in, version_in, whole_in, whole_text};
+ghost use Rattle.psg_server.specs.Told.{document_of};
+
+use psg_documents::Encoding;
+use psg_messages::Params;
+use serde_json::Value;
+
+/// What a note says of a document: its address, its version and its text.
+#[derive(Clone, Copy)]
+pub struct Told<'a> {
+    pub address: &'a str,
+    pub version: i64,
+    pub text: &'a str,
+}
+
+/// Returns the object of the parameters.
+fn fields_in<'a>(given: Params<'a>) -> Option<&'a Value>
+    ensures { option_map (λ v. view v.now) result ≡ fields_in (given_of given.entry) }
+{
+    match given {
+        Params::Nothing => None,
+        Params::Fields(value) => Some(value),
+        Params::Wrong => None,
+    }
+}
+
+/// Returns the document that the parameters name.
+fn document_in<'a>(given: Params<'a>) -> Option<&'a Value>
+    ensures { option_map (λ v. view v.now) result ≡ document_in (given_of given.entry) }
+{
+    let fields = fields_in(given)?;
+    fields.get("textDocument")
+}
+
+/// Returns the address of the document that the parameters name.
+pub(crate) fn address_in<'a>(given: Params<'a>) -> Option<&'a str>
+    ensures { option_map (λ s. s.now) result ≡ address_in (given_of given.entry) }
+{
+    let document = document_in(given)?;
+    let address = document.get("uri")?;
+    address.as_str()
+}
+
+/// Returns the version of the document.
+fn version_in(given: Params<'_>) -> Option<i64>
+    ensures { result ≡ version_in (given_of given.entry) }
+{
+    let document = document_in(given)?;
+    let version = document.get("version")?;
+    version.as_i64()
+}
+
+/// Returns the text of a document that is opened.
+fn opened_text_in<'a>(given: Params<'a>) -> Option<&'a str>
+    ensures { option_map (λ s. s.now) result ≡ opened_text_in (given_of given.entry) }
+{
+    let document = document_in(given)?;
+    let text = document.get("text")?;
+    text.as_str()
+}
+
+/// Returns the last of the items.
+fn last_of(items: &[Value]) -> Option<&Value>
+    ensures { option_map (λ v. view v.now) result ≡ last_of (items_view items.now) }
+{
+    if items.is_empty() {
+        return None;
+    }
+    Some(&items[items.len() - 1])
+}
+
+/// Returns the text of a change of the whole text.
+fn whole_text(change: &Value) -> Option<&str>
+    ensures { option_map (λ s. s.now) result ≡ whole_text (Some (view change.now)) }
+{
+    if change.get("range").is_some() {
+        return None;
+    }
+    let text = change.get("text")?;
+    text.as_str()
+}
+
+/// Returns the text of a document that is changed: that of the last change, if it is one of the whole text.
+fn changed_text_in<'a>(given: Params<'a>) -> Option<&'a str>
+    ensures { option_map (λ s. s.now) result ≡ changed_text_in (given_of given.entry) }
+{
+    let fields = fields_in(given)?;
+    let changes = fields.get("contentChanges")?;
+    let items = changes.as_array()?;
+    let last = last_of(items.as_slice())?;
+    whole_text(last)
+}
+
+/// Returns what the parameters of `didOpen` say.
+pub(crate) fn opened_in<'a>(given: Params<'a>) -> Option<Told<'a>>
+    ensures { option_map document_of result ≡ opened_in (given_of given.entry) }
+{
+    let address = address_in(given)?;
+    let version = version_in(given)?;
+    let text = opened_text_in(given)?;
+    Some(Told {
+        address,
+        version,
+        text,
+    })
+}
+
+/// Returns what the parameters of `didChange` say.
+pub(crate) fn changed_in<'a>(given: Params<'a>) -> Option<Told<'a>>
+    ensures { option_map document_of result ≡ changed_in (given_of given.entry) }
+{
+    let address = address_in(given)?;
+    let version = version_in(given)?;
+    let text = changed_text_in(given)?;
+    Some(Told {
+        address,
+        version,
+        text,
+    })
+}
+
+/// Says whether the value is this text.
+fn is_text(value: &Value, name: &str) -> bool
+    ensures { result ≡ is_text name.now (as_str (view value.now)) }
+{
+    match value.as_str() {
+        Some(text) => text == name,
+        None => false,
+    }
+}
+
+/// Says whether one of the items is this text.
+fn any_text(items: &[Value], name: &str) -> bool
+    ensures { result ≡ list_any (λ v. is_text name.now (as_str (view v))) items.now }
+{
+    items.iter().any(|item| is_text(item, name))
+}
+
+/// Says whether one of the items is this text.
+fn has_text(items: &[Value], name: &str) -> bool
+    ensures { result ≡ has_text name.now (items_view items.now) }
+{
+    any_text(items, name)
+}
+
+/// Returns the encodings that the client offers.
+fn offered_in<'a>(given: Params<'a>) -> Option<&'a [Value]>
+    ensures { option_map (λ v. items_view v.now) result ≡ offered_in (given_of given.entry) }
+{
+    let fields = fields_in(given)?;
+    let capabilities = fields.get("capabilities")?;
+    let general = capabilities.get("general")?;
+    let offered = general.get("positionEncodings")?;
+    let items = offered.as_array()?;
+    Some(items.as_slice())
+}
+
+/// Says whether the client offers utf-8.
+fn offers_bytes(given: Params<'_>) -> bool
+    ensures { result ≡ offers (codes "utf-8") (offered_in (given_of given.entry)) }
+{
+    match offered_in(given) {
+        Some(items) => has_text(items, "utf-8"),
+        None => false,
+    }
+}
+
+/// Returns the encoding in which columns are to be counted.
+pub(crate) fn encoding_in(given: Params<'_>) -> Encoding
+    ensures { result ≡ encoding_in (given_of given.entry) }
+{
+    if offers_bytes(given) {
+        Encoding::Utf8
+    } else {
+        Encoding::Utf16
+    }
+}

@@ -1,0 +1,26 @@
+//! A server of the Language Server Protocol for an accepted language: what a message makes of it, and what is sent.
+//!
+//! ```text
+//! let mut server = Server::new(alloc);
+//! match server.answer(alloc, &language, kind, body, &mut steps)? {
+//!     Reply::Nothing => .., Reply::Sent(value) => .., Reply::Ended(status) => ..,
+//! }
+//! ```
+//!
+//! A document is an address, a version and a text. What is published of it is made of its text alone, anew at each
+//! change, so that no older tree can be shown. A document is judged as a program of one kind.
+#![tactic(auto)]
+
+mod capabilities;
+mod diagnostics;
+mod documents;
+mod edits;
+mod fields;
+mod laws;
+mod methods;
+mod ranges;
+mod server;
+
+pub use documents::{Document, Documents};
+pub use laws::others_stay;
+pub use server::{Reply, Server};

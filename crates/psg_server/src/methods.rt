@@ -1,0 +1,78 @@
+//! The methods of the messages that the server has.
+ghost use Rattle.std.specs.Prelude.{◌≡◌};
+ghost use Rattle.psg_messages.specs.Messages.{said_of};
+ghost use Rattle.psg_server.specs.Methods.{call_of, is_known, notice_of};
+
+use psg_messages::Message;
+
+/// A request that the server has.
+#[derive(Clone, Copy, Debug, PartialEq, Eq)]
+pub enum Call {
+    /// `initialize`
+    Initialize,
+    /// `shutdown`
+    Shutdown,
+    /// `textDocument/formatting`
+    Formatting,
+}
+
+/// A note that the server has.
+#[derive(Clone, Copy, Debug, PartialEq, Eq)]
+pub enum Notice {
+    /// `textDocument/didOpen`
+    Opened,
+    /// `textDocument/didChange`
+    Changed,
+    /// `textDocument/didClose`
+    Closed,
+    /// `exit`
+    Exit,
+}
+
+/// Returns the request of the name, if the server has one.
+pub(crate) fn call_of(method: &str) -> Option<Call>
+    ensures { result ≡ call_of method.now }
+{
+    if method == "initialize" {
+        Some(Call::Initialize)
+    } else if method == "shutdown" {
+        Some(Call::Shutdown)
+    } else if method == "textDocument/formatting" {
+        Some(Call::Formatting)
+    } else {
+        None
+    }
+}
+
+/// Returns the note of the name, if the server has one.
+pub(crate) fn notice_of(method: &str) -> Option<Notice>
+    ensures { result ≡ notice_of method.now }
+{
+    if method == "textDocument/didOpen" {
+        Some(Notice::Opened)
+    } else if method == "textDocument/didChange" {
+        Some(Notice::Changed)
+    } else if method == "textDocument/didClose" {
+        Some(Notice::Closed)
+    } else if method == "exit" {
+        Some(Notice::Exit)
+    } else {
+        None
+    }
+}
+
+/// Says whether the server has the method of the message.
+pub(crate) fn is_known(message: &Message<'_>) -> bool
+    ensures { result ≡ is_known (said_of message.now) }
+{
+    match *message {
+        Message::Request {
+            id: _,
+            method,
+            given: _,
+        } => call_of(method).is_some(),
+        Message::Note { method, given: _ } => notice_of(method).is_some(),
+        Message::Answer => false,
+        Message::Wrong { id: _ } => false,
+    }
+}
