@@ -40,6 +40,7 @@ const HELP: &str = "psg: editors of small languages, from their definitions
   psg --version         writes the version
 
 By the launcher ./psg alone:
+  ./psg tui DEF KIND FILE   shows the program of the file on the whole screen, with keys that change it
   ./psg codes           writes what the numbers and names of replies mean; ./psg codes 12 those of one, with an example
   ./psg commands        writes the commands with their replies and refusals
   ./psg help WORD       writes what is known of a word: a form, a command, a number or a name
