@@ -175,7 +175,9 @@ fn tui_of(alloc: Global, words: &Words, session: Session, kind: Kind) -> Result<
     let file = name_of(alloc, words.program)?;
     let title = String::from_str(alloc, base_of(words.file))?;
     let writes = words.writes;
-    Tui::new(alloc, session, kind, title, file, writes, words.rows, words.cols)
+    Tui::new(
+        alloc, session, kind, title, file, writes, words.rows, words.cols,
+    )
 }
 
 /// Runs the editor, and returns the status.
