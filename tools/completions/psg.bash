@@ -6,11 +6,11 @@ _psg() {
         first=${COMP_WORDS[2]} place=$((place - 1))
     fi
     if [ "$place" -eq 1 ]; then
-        mapfile -t COMPREPLY < <(compgen -W "check edit live windows gen layout self format lint tui lsp explain test sample tree codes commands help --help --version --build --explain" -- "$word")
+        mapfile -t COMPREPLY < <(compgen -W "check edit live windows gen layout self format lint tui lsp explain test sample tree grammar codes commands help --help --version --build --explain" -- "$word")
         return
     fi
     case $first in
-    check | edit | live | windows | layout | self | format | lint | tui | lsp | explain | test | sample | tree)
+    check | edit | live | windows | layout | self | format | lint | tui | lsp | explain | test | sample | tree | grammar)
         # the first file is a definition
         if [ "$place" -eq 2 ]; then
             mapfile -t COMPREPLY < <(compgen -f -X '!*.psg' -- "$word"; compgen -d -- "$word")
