@@ -47,12 +47,13 @@ By the launcher ./psg alone:
   ./psg check --warn DEF   says also what is accepted and likely a slip
   ./psg check --all DEF    says the first fault of each line
   ./psg test DEF FILE.. plays the examples of the files on the definition
+  ./psg lsp DEF KIND    serves an editor by the Language Server Protocol
   ./psg lint DEF KIND FILE --json   writes what lint tells as JSON
   ./psg format DEF KIND FILE --write   writes the file itself as it is to be laid out
   ./psg sample DEF KIND N SEED   writes N random programs of the kind that are right; with --wrong in front of DEF, each
                         with one place that is wrong
-  ./psg grammar DEF     writes a TextMate grammar of the language, for the colours of an editor; with --vim in front of DEF
-                        a syntax file of Vim
+  ./psg grammar DEF     writes a TextMate grammar, for the colours of an editor; with --vim in front of DEF a syntax file
+                        of Vim
   ./psg tree DEF KIND FILE   writes the tree of a program file as JSON
   ./psg --explain WORDS..   says on standard error, in words, what is refused; without the word where that is a terminal
   ./psg --build         proves the program and builds it
