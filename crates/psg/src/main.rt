@@ -52,7 +52,7 @@ By the launcher ./psg alone:
   ./psg format DEF KIND FILE --write   writes the file itself as it is to be laid out
   ./psg sample DEF KIND N SEED   writes N random programs of the kind that are right; with --wrong in front of DEF, each
                         with one place that is wrong
-  ./psg grammar DEF     writes a TextMate grammar, for the colours of an editor; with --vim in front of DEF a syntax file
+  ./psg grammar DEF     writes a TextMate grammar for an editor's colours; with --vim in front of DEF a syntax file
                         of Vim
   ./psg tree DEF KIND FILE   writes the tree of a program file as JSON
   ./psg --explain WORDS..   says on standard error, in words, what is refused; without the word where that is a terminal
