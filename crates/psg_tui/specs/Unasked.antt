@@ -7,5 +7,5 @@ unasked_lines =
     codes "The program is wrong, and nothing is known of this place." ∷
     codes "It is in a wrong part, or the wrong places are too many." ∷
     codes "" ∷
-    codes "n goes to the next wrong place, and e writes a text in its place." ∷
+    codes "n goes to a wrong place, and e writes a text in its place." ∷
     []

@@ -1,6 +1,6 @@
 //! The lines around the program.
 use crate::editing::Editing;
-use crate::picture::is_refusal;
+use crate::picture::is_told;
 use crate::words::message_text;
 use psg_face::is_dots;
 use psg_grammar::{Definition, Kind};
@@ -153,8 +153,8 @@ pub(crate) fn offers_row(alloc: Global, editing: &Editing) -> Result<Vec<Piece>,
         face.mode,
         Mode::Typing | Mode::Choosing | Mode::Naming | Mode::Saving
     );
-    // while a line is open its own row is taken, so a refusal is said here
-    if is_open && is_refusal(&face.message) {
+    // while a line is open its own row is taken, so what a key could not do is said here
+    if is_open && is_told(&face.message) {
         return one(alloc, message_text(alloc, &face.message)?);
     }
     match face.mode {

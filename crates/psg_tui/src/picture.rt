@@ -311,7 +311,11 @@ fn child_end(spans: &[Span], steps: &[u32], byte: usize) -> Option<usize>
     None
 }
 
-/// Says whether the message is that of a refusal.
-pub(crate) fn is_refusal(message: &Message) -> bool {
-    matches!(message, Message::Refused(_))
+/// Says whether the message is shown while a line of text is open: a refusal, bytes that are no key, or that there was
+/// no memory.
+pub(crate) fn is_told(message: &Message) -> bool {
+    matches!(
+        message,
+        Message::Refused(_) | Message::Unknown(_) | Message::NoMemory
+    )
 }

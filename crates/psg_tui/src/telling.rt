@@ -17,7 +17,7 @@ const UNASKED: &[&str] = &[
     "The program is wrong, and nothing is known of this place.",
     "It is in a wrong part, or the wrong places are too many.",
     "",
-    "n goes to the next wrong place, and e writes a text in its place.",
+    "n goes to a wrong place, and e writes a text in its place.",
 ];
 
 /// Shows what fits at the spot.
