@@ -11,6 +11,17 @@ local function told()
   end, vim.diagnostic.get(0))
 end
 
+-- what the server answers to a question about a place of the text
+local function asked(method, line, column)
+  local params = {
+    textDocument = vim.lsp.util.make_text_document_params(),
+    position = { line = line, character = column },
+  }
+  for _, answer in pairs(vim.lsp.buf_request_sync(0, method, params, 20000) or {}) do
+    return answer.result
+  end
+end
+
 local failed = 0
 local function want(what, wanted, given)
   vim.wait(20000, function() return vim.deep_equal(given(), wanted) end, 10)
@@ -39,6 +50,10 @@ local function run()
   want("another change", { "0:0-0:1 2 x is not declared" }, told)
   psg.format()
   want("formatting", { "x := 1;", "skip" }, function() return vim.api.nvim_buf_get_lines(0, 0, -1, false) end)
+  want("hover", "Stat: skip\nok", function()
+    local told = asked("textDocument/hover", 1, 2)
+    return told and told.contents.value
+  end)
 end
 
 local good, fault = pcall(run)

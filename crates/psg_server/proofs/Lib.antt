@@ -3,5 +3,7 @@ mod DiagnosticLaws
 mod DocumentLaws
 mod EditLaws
 mod FieldLaws
+mod HoverLaws
 mod ServeLaws
+mod TextLaws
 mod WordLaws

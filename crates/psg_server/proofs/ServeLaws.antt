@@ -1,12 +1,13 @@
 -- What is served, as the program has it.
 use Rattle.std.proofs.Common.{◌≡◌, ℕ, Bool, true, false, List, Option, Some, None, refl, sym, ◌∙◌, ap, subst}
 use Rattle.std.specs.Prelude.{MatchOption, is_some}
-use Rattle.std.specs.Option.{option_map}
+use Rattle.std.specs.Option.{option_map, unwrap_or}
 use Rattle.serde_json.specs.Data.{Data}
 use Rattle.serde_json.specs.View.{view}
 use Rattle.serde_json.specs.declared.value.Value.{Value}
 use denote.Ref.{Bor}
 use Rattle.std.proofs.lemmas.Bool.{false≢true}
+use Rattle.std.proofs.lemmas.Option.{none-some}
 use Rattle.psg_documents.specs.declared.encoding.Encoding.{Encoding}
 use Rattle.psg_grammar.specs.declared.types.Definition.{Definition}
 use Rattle.psg_grammar.specs.declared.types.Kind.{Kind}
@@ -20,12 +21,12 @@ use Rattle.psg_messages.specs.declared.turns.Turn.TheVariants as turns
 use Rattle.psg_server.specs.declared.documents.Document.{Document}
 use Rattle.psg_server.specs.declared.methods.Notice.TheVariants as notices
 use Rattle.psg_server.specs.declared.server.Server.{Server}
-use Rattle.psg_server.specs.Answering.{Answers, Gets, Out, Serves, changes, changes_closed, closes, closes_none, open_at, open_in, opens, sent, silent}
+use Rattle.psg_server.specs.Answering.{Answers, Gets, Out, Serves, changes, changes_none, closes, closes_none, open_at, open_in, opens, sent, silent}
 use Rattle.psg_server.specs.Answering.{is_refused, is_served, json, no_json, refusal}
 use Rattle.psg_server.specs.Diagnostics.{IsPublished}
 use Rattle.psg_server.specs.Documents.{Becomes, document_at}
 use Rattle.psg_server.specs.Fields.{address_in, changed_in, opened_in}
-use Rattle.psg_server.specs.Kept.{IsChanged, IsClosed, IsKept, is_closed, reopened, unopened, was_closed}
+use Rattle.psg_server.specs.Kept.{IsClosed, IsKept, is_closed, was_closed}
 use Rattle.psg_server.specs.Methods.{is_known, notice_of}
 
 pub served_as : (def : Definition) (kind : Kind) (old : Server) (s : Said) (e1 e2 : Encoding) (d1 d2 : List Document) (o1 o2 : Out)
@@ -49,21 +50,30 @@ opened_as def kind d old new out method given is told so =
     served_as def kind old (note method given) old.encoding new.encoding new.documents new.documents (sent so.told) out
     so.encoding_is refl so.out_is (opens method given d new.documents so.told is told so.becomes so.published)
 
-pub changed_as : (def : Definition) (kind : Kind) (d : Document) (old new : Server) (out : Out) (method : List ℕ) (given : Given)
-    → notice_of method ≡ Some notices.Changed → changed_in given ≡ Some d → IsChanged def kind d old new out
-    → Serves def kind old (note method given) new.encoding new.documents out
-changed_as def kind d old new out method given is told (unopened none same quiet) =
-    served_as def kind old (note method given) old.encoding new.encoding old.documents new.documents silent out
-    (ap (λ (s : Server). s.encoding) same) (ap (λ (s : Server). s.documents) same) quiet
-    (changes_closed method given d is told none)
-changed_as def kind d old new out method given is told (reopened before there so) =
-    served_as def kind old (note method given) old.encoding new.encoding new.documents new.documents (sent so.told) out
-    so.encoding_is refl so.out_is (changes method given d before new.documents so.told is told there so.becomes so.published)
+mapped : (f : Document → Document) (o : Option Document) (d : Document) → Some d ≡ option_map f o
+    → (before : Document) × (o ≡ Some before) × (f before ≡ d)
+mapped f None d e = absurd (none-some d (sym e))
+mapped f (Some before) d e = (before, refl, ap (λ (o : Option Document). unwrap_or o d) (sym e))
 
-pub changed_phase : (def : Definition) (kind : Kind) (d : Document) (old new : Server) (out : Out)
-    → IsChanged def kind d old new out → new.phase ≡ old.phase
-changed_phase def kind d old new out (unopened none same quiet) = ap (λ (s : Server). s.phase) same
-changed_phase def kind d old new out (reopened before there so) = so.phase_is
+none_mapped : (f : Document → Document) (o : Option Document) → None ≡ option_map f o → o ≡ None
+none_mapped f None e = refl
+none_mapped f (Some before) e = absurd (none-some (f before) e)
+
+pub changed_as : (def : Definition) (kind : Kind) (d : Document) (old new : Server) (out : Out) (method : List ℕ) (given : Given)
+    → notice_of method ≡ Some notices.Changed → Some d ≡ option_map (changed_in given) (open_in given old.documents)
+    → IsKept def kind d old new out → Serves def kind old (note method given) new.encoding new.documents out
+changed_as def kind d old new out method given is e kept =
+    let found = mapped (changed_in given) (open_in given old.documents) d e in
+    let so : IsKept def kind (changed_in given found.0) old new out =
+    subst (λ (x : Document). IsKept def kind x old new out) (sym found.2) kept in
+    served_as def kind old (note method given) old.encoding new.encoding new.documents new.documents (sent so.told) out
+    so.encoding_is refl so.out_is (changes method given found.0 new.documents so.told is found.1 so.becomes so.published)
+
+pub unchanged_as : (def : Definition) (kind : Kind) (old : Server) (method : List ℕ) (given : Given)
+    → notice_of method ≡ Some notices.Changed → None ≡ option_map (changed_in given) (open_in given old.documents)
+    → Serves def kind old (note method given) old.encoding old.documents silent
+unchanged_as def kind old method given is e =
+    changes_none method given is (none_mapped (changed_in given) (open_in given old.documents) e)
 
 pub closed_as : (def : Definition) (kind : Kind) (address : List ℕ) (old new : Server) (out : Out) (method : List ℕ) (given : Given)
     → notice_of method ≡ Some notices.Closed → address_in given ≡ Some address → IsClosed address old new out

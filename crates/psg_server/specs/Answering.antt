@@ -4,6 +4,7 @@ use Rattle.std.specs.Prelude.{ℕ, ◌≡◌, List, Option, Some, None, codes}
 use Rattle.serde_json.specs.Data.{Data, null}
 use Rattle.serde_json.specs.View.{view}
 use Rattle.psg_documents.specs.declared.encoding.Encoding.{Encoding}
+use Rattle.psg_documents.specs.declared.lines.Position.{Position}
 use Rattle.psg_grammar.specs.declared.types.Definition.{Definition}
 use Rattle.psg_grammar.specs.declared.types.Kind.{Kind}
 use Rattle.psg_messages.specs.Answers.{answer_of, refusal_of}
@@ -18,10 +19,11 @@ use Rattle.psg_server.specs.declared.server.Reply.{Reply}
 use Rattle.psg_server.specs.declared.server.Reply.TheVariants as replies
 use Rattle.psg_server.specs.declared.server.Server.{Server}
 use Rattle.psg_server.specs.Capabilities.{greeting_of}
-use Rattle.psg_server.specs.Diagnostics.{IsPublished, closed_data}
+use Rattle.psg_server.specs.Diagnostics.{IsPublished, cleared_data}
 use Rattle.psg_server.specs.Documents.{Becomes, document_at}
-use Rattle.psg_server.specs.Edits.{IsFormatting}
-use Rattle.psg_server.specs.Fields.{address_in, changed_in, encoding_in, opened_in}
+use Rattle.psg_server.specs.Edits.{IsFormattingOf}
+use Rattle.psg_server.specs.Fields.{address_in, changed_in, encoding_in, opened_in, position_in}
+use Rattle.psg_server.specs.Hovering.{IsToldIn}
 use Rattle.psg_server.specs.Methods.{call_of, is_known, notice_of}
 
 -- what comes of a message: nothing, a value that is sent, or the end with a status
@@ -54,6 +56,20 @@ open_at (Some address) documents = document_at address documents
 abbrev pub open_in : Given → List Document → Option Document
 open_in given documents = open_at (address_in given) documents
 
+-- a position of a document
+pub record Place : Type 0 where
+  pub document : Document
+  pub position : Position
+
+abbrev pub place_by : Option Document → Option Position → Option Place
+place_by None position = None
+place_by (Some d) None = None
+place_by (Some d) (Some position) = Some (record { document = d; position = position })
+
+-- the one that the parameters name, if the document is open
+abbrev pub place_in : Given → List Document → Option Place
+place_in given documents = place_by (open_in given documents) (position_in given)
+
 module _ (def : Definition) (kind : Kind) where
   -- What is served: the encoding and the documents then, and what comes of it. What is published of a document is made of
   -- its text alone, so no older one can be shown.
@@ -68,10 +84,17 @@ module _ (def : Definition) (kind : Kind) where
     -- `formatting`, of a document that is open, and of one that is not
     formats : (id : Data) (method : List ℕ) (given : Given) (d : Document) (edits : Data)
         → call_of method ≡ Some calls.Formatting → open_in given old.documents ≡ Some d
-        → IsFormatting def kind old.encoding d.text edits
+        → IsFormattingOf def kind old.encoding d.text edits
         → Serves old (request id method given) old.encoding old.documents (sent (answer_of id edits))
     formats_none : (id : Data) (method : List ℕ) (given : Given) → call_of method ≡ Some calls.Formatting
         → open_in given old.documents ≡ None
+        → Serves old (request id method given) old.encoding old.documents (refusal (Some id) faults.WrongParams)
+    -- `hover`, at a position of a document that is open, and where there is none
+    hovers : (id : Data) (method : List ℕ) (given : Given) (p : Place) (told : Data) → call_of method ≡ Some calls.Hover
+        → place_in given old.documents ≡ Some p → IsToldIn def kind old.encoding p.document.text p.position told
+        → Serves old (request id method given) old.encoding old.documents (sent (answer_of id told))
+    hovers_none : (id : Data) (method : List ℕ) (given : Given) → call_of method ≡ Some calls.Hover
+        → place_in given old.documents ≡ None
         → Serves old (request id method given) old.encoding old.documents (refusal (Some id) faults.WrongParams)
     -- `didOpen`
     opens : (method : List ℕ) (given : Given) (d : Document) (documents : List Document) (told : Data)
@@ -80,21 +103,20 @@ module _ (def : Definition) (kind : Kind) where
         → Serves old (note method given) old.encoding documents (sent told)
     opens_none : (method : List ℕ) (given : Given) → notice_of method ≡ Some notices.Opened → opened_in given ≡ None
         → Serves old (note method given) old.encoding old.documents silent
-    -- `didChange`, of a document that is open, and of one that is not; and one that has no text as a whole
-    changes : (method : List ℕ) (given : Given) (d before : Document) (documents : List Document) (told : Data)
-        → notice_of method ≡ Some notices.Changed → changed_in given ≡ Some d
-        → document_at d.address old.documents ≡ Some before → Becomes d.address (Some d) old.documents documents
-        → IsPublished def kind old.encoding d told → Serves old (note method given) old.encoding documents (sent told)
-    changes_closed : (method : List ℕ) (given : Given) (d : Document) → notice_of method ≡ Some notices.Changed
-        → changed_in given ≡ Some d → document_at d.address old.documents ≡ None
-        → Serves old (note method given) old.encoding old.documents silent
+    -- `didChange`, of a document that is open, and of one that is not. Where the change has not the whole text, the text
+    -- is not known then.
+    changes : (method : List ℕ) (given : Given) (before : Document) (documents : List Document) (told : Data)
+        → notice_of method ≡ Some notices.Changed → open_in given old.documents ≡ Some before
+        → Becomes before.address (Some (changed_in given before)) old.documents documents
+        → IsPublished def kind old.encoding (changed_in given before) told
+        → Serves old (note method given) old.encoding documents (sent told)
     changes_none : (method : List ℕ) (given : Given) → notice_of method ≡ Some notices.Changed
-        → changed_in given ≡ None → Serves old (note method given) old.encoding old.documents silent
+        → open_in given old.documents ≡ None → Serves old (note method given) old.encoding old.documents silent
     -- `didClose`, of a document that is open, and of one that is not
     closes : (method address : List ℕ) (given : Given) (d : Document) (documents : List Document)
         → notice_of method ≡ Some notices.Closed → address_in given ≡ Some address
         → document_at address old.documents ≡ Some d → Becomes address None old.documents documents
-        → Serves old (note method given) old.encoding documents (sent (closed_data address))
+        → Serves old (note method given) old.encoding documents (sent (cleared_data address))
     closes_none : (method : List ℕ) (given : Given) → notice_of method ≡ Some notices.Closed
         → open_in given old.documents ≡ None → Serves old (note method given) old.encoding old.documents silent
     -- `exit`

@@ -23,7 +23,8 @@ with_encoding encodings.Utf32 = named (codes "utf-32")
 
 abbrev pub capabilities_of : Encoding → Data
 capabilities_of encoding =
-    object (member (codes "documentFormattingProvider") (boolean true) (with_encoding encoding))
+    object (member (codes "documentFormattingProvider") (boolean true)
+    (member (codes "hoverProvider") (boolean true) (with_encoding encoding)))
 
 -- the answer to `initialize`
 abbrev pub greeting_with : Data → Data

@@ -1,5 +1,5 @@
 -- What is published of a document: what is found in its text, and nothing else.
-use Rattle.std.specs.Prelude.{ℕ, ℤ, ◌≡◌, ◌+◌, ◌-◌, ◌||◌, ◌&&◌, ◌==◌, Bool, true, false, List, [], ◌∷◌, length, drop}
+use Rattle.std.specs.Prelude.{ℕ, ℤ, ◌≡◌, ◌+◌, ◌-◌, ◌||◌, ◌&&◌, ◌==◌, Bool, true, false, List, [], ◌∷◌, length, drop, Option, Some, None}
 use Rattle.std.specs.Prelude.{codes, min, nat_le, not, position, unwrap_or, if◌then◌else◌}
 use Rattle.serde_json.specs.Data.{Data, array, number, unsigned, string, object, member, no_members}
 use Rattle.serde_json.specs.Find.{of_integer}
@@ -76,21 +76,31 @@ abbrev pub publish_data : (address : List ℕ) (version : ℤ) (diagnostics : Li
 publish_data address version diagnostics =
     note_of (codes "textDocument/publishDiagnostics") (publish_params address version diagnostics)
 
--- The note tells what is found in the text of the document, in which it is one of the kind.
-pub record IsPublished (def : Definition) (kind : Kind) (encoding : Encoding) (d : Document) (told : Data) : Type 0 where
+-- The note tells what is found in a text, which is to be a program of the kind.
+pub record IsReported (def : Definition) (kind : Kind) (encoding : Encoding) (address : List ℕ) (version : ℤ) (text : List ℕ)
+    (told : Data) : Type 0 where
   pub judged : List ℕ
   pub limited : Bool
   pub found : List Finding
   pub more : Bool
-  pub report : IsReport def kind d.text judged limited found more
+  pub report : IsReport def kind text judged limited found more
   pub diagnostics : List Data
-  pub are : AreDiagnostics encoding d.text found more diagnostics
-  pub is : told ≡ publish_data d.address d.version diagnostics
+  pub are : AreDiagnostics encoding text found more diagnostics
+  pub is : told ≡ publish_data address version diagnostics
 
--- of a document that is closed there are none
-abbrev pub closed_params : List ℕ → Data
-closed_params address =
+-- the note that a document has no diagnostics
+abbrev pub cleared_params : List ℕ → Data
+cleared_params address =
     object (member (codes "diagnostics") (array (items_of [])) (member (codes "uri") (string address) no_members))
 
-abbrev pub closed_data : List ℕ → Data
-closed_data address = note_of (codes "textDocument/publishDiagnostics") (closed_params address)
+abbrev pub cleared_data : List ℕ → Data
+cleared_data address = note_of (codes "textDocument/publishDiagnostics") (cleared_params address)
+
+-- what is published of a text, and where the text is not known
+abbrev pub IsPublishedOf : Definition → Kind → Encoding → List ℕ → ℤ → Option (List ℕ) → Data → Type 0
+IsPublishedOf def kind encoding address version None told = told ≡ cleared_data address
+IsPublishedOf def kind encoding address version (Some text) told = IsReported def kind encoding address version text told
+
+-- what is published of a document
+abbrev pub IsPublished : Definition → Kind → Encoding → Document → Data → Type 0
+IsPublished def kind encoding d told = IsPublishedOf def kind encoding d.address d.version d.text told

@@ -1,5 +1,5 @@
 -- The text that a document is to have, as an edit.
-use Rattle.std.specs.Prelude.{ℕ, ◌≡◌, ◌≤◌, ◌++◌, List, length, take, drop, codes}
+use Rattle.std.specs.Prelude.{ℕ, ◌≡◌, ◌<◌, ◌≤◌, ◌++◌, List, length, take, drop, Option, Some, None, codes}
 use Rattle.serde_json.specs.Data.{Data, null, array, no_items, item, string, object, member, no_members}
 use Rattle.psg_documents.specs.declared.encoding.Encoding.{Encoding}
 use Rattle.psg_documents.specs.Positions.{IsLineStart, IsStop}
@@ -13,15 +13,43 @@ use Rattle.psg_server.specs.Ranges.{IsRange}
 abbrev pub edit_data : Data → List ℕ → Data
 edit_data range new = object (member (codes "newText") (string new) (member (codes "range") range no_members))
 
--- A text in place of a range of the text makes it the one that is wanted. The range goes from the beginning of a line up to
--- a place where a person may be, so its positions name these bytes.
+-- whole lines at the beginning of both texts are the same: those before this place
+pub record HaveFront (text wanted : List ℕ) (from : ℕ) : Type 0 where
+  pub start : IsLineStart text from
+  pub start_wanted : IsLineStart wanted from
+  pub same : take from text ≡ take from wanted
+
+-- Whole lines at the end of both texts are the same, or there are none: those from these places on.
+pub record HaveTail (text wanted : List ℕ) (to until : ℕ) : Type 0 where
+  pub within : to ≤ length text
+  pub within_wanted : until ≤ length wanted
+  pub start : to < length text → IsLineStart text to
+  pub start_wanted : until < length wanted → IsLineStart wanted until
+  pub same : drop to text ≡ drop until wanted
+
+-- the first line that differs begins at this place
+pub record IsFront (text wanted : List ℕ) (from : ℕ) : Type 0 where
+  pub have : HaveFront text wanted from
+  pub longest : (other : ℕ) → HaveFront text wanted other → other ≤ from
+
+-- from these places on are all the whole lines at the end that are the same, of what is not before a place
+pub record IsTail (text wanted : List ℕ) (from to until : ℕ) : Type 0 where
+  pub before : from ≤ to
+  pub before_wanted : from ≤ until
+  pub have : HaveTail text wanted to until
+  pub longest : (other stop : ℕ) → from ≤ other → from ≤ stop → HaveTail text wanted other stop → to ≤ other
+
+-- A text in place of a range of the text makes it the one that is wanted. The range begins with the first line that differs.
+-- It ends as early as it may then: whole lines that are the same at the end are not in it. Its ends are places where a
+-- person may be, so its positions name these bytes.
 pub record IsEdit (encoding : Encoding) (text wanted : List ℕ) (d : Data) : Type 0 where
   pub from : ℕ
   pub to : ℕ
-  pub start : IsLineStart text from
-  pub stop : IsStop text from
-  pub end : IsStop text to
-  pub before : from ≤ to
+  pub until : ℕ
+  pub front : IsFront text wanted from
+  pub tail : IsTail text wanted from to until
+  pub begins : IsStop text from
+  pub ends : IsStop text to
   pub new : List ℕ
   pub gives : take from text ++ (new ++ drop to text) ≡ wanted
   pub range : Data
@@ -36,3 +64,8 @@ pub data IsFormatting (def : Definition) (kind : Kind) (encoding : Encoding) (te
       → IsFormatting def kind encoding text (array no_items)
   one_edit : (f : Fragment) (d : Data) → IsProgram def kind text f → (text ≡ formatted def f → ⊥)
       → IsEdit encoding text (formatted def f) d → IsFormatting def kind encoding text (array (item d no_items))
+
+-- Of a text that is not known: nothing.
+abbrev pub IsFormattingOf : Definition → Kind → Encoding → Option (List ℕ) → Data → Type 0
+IsFormattingOf def kind encoding None d = d ≡ null
+IsFormattingOf def kind encoding (Some text) d = IsFormatting def kind encoding text d

@@ -1,10 +1,11 @@
 -- What the parameters of a message say.
-use Rattle.std.specs.Prelude.{ℕ, ℤ, List, Bool, true, false, Option, Some, None, ◌||◌, codes, is_some, option_and_then, if◌then◌else◌}
+use Rattle.std.specs.Prelude.{ℕ, ℤ, List, Bool, true, false, Option, Some, None, ◌||◌, codes, is_some, not, option_and_then, unwrap_or, if◌then◌else◌}
 use Rattle.std.specs.Str.{bytes_eq}
 use Rattle.psg_documents.specs.declared.encoding.Encoding.{Encoding}
 use Rattle.psg_documents.specs.declared.encoding.Encoding.TheVariants as encodings
+use Rattle.psg_documents.specs.declared.lines.Position.{Position}
 use Rattle.serde_json.specs.Data.{Data, Items, no_items, item}
-use Rattle.serde_json.specs.Find.{as_array, as_i64, as_number, as_str, get}
+use Rattle.serde_json.specs.Find.{as_array, as_i64, as_null, as_number, as_str, as_u64, get}
 use Rattle.psg_messages.specs.Messages.{Given, nothing, fields, wrong_params}
 use Rattle.psg_server.specs.declared.documents.Document.{Document}
 
@@ -57,14 +58,30 @@ abbrev pub last_in : Option Items → Option Data
 last_in None = None
 last_in (Some ds) = last_of ds
 
--- a change that has a range is none of the whole text
+-- a change of a part of the text has a range, which is not null
+abbrev pub is_part : Option Data → Bool
+is_part None = false
+is_part (Some range) = not (is_some (as_null range))
+
+-- the text of a change of the whole text
 abbrev pub whole_text : Option Data → Option (List ℕ)
 whole_text None = None
-whole_text (Some d) = if is_some (get (codes "range") d) then None else text_in (get (codes "text") d)
+whole_text (Some d) = if is_part (get (codes "range") d) then None else text_in (get (codes "text") d)
 
--- of a document that is changed: that of the last change, which is one of the whole text
-abbrev pub changed_text_in : Given → Option (List ℕ)
-changed_text_in given = whole_text (last_in (items_in (member_in (codes "contentChanges") (fields_in given))))
+-- the changes of a document
+abbrev pub changes_in : Given → Option Items
+changes_in given = items_in (member_in (codes "contentChanges") (fields_in given))
+
+-- there is a list, and it is empty
+abbrev pub is_empty : Option Items → Bool
+is_empty None = false
+is_empty (Some no_items) = true
+is_empty (Some (item d ds)) = false
+
+-- The text after changes: as before where there are none, and else that of the last change. It is not known where that
+-- is none of the whole text.
+abbrev pub text_after : Option Items → Option (List ℕ) → Option (List ℕ)
+text_after changes before = if is_empty changes then before else whole_text (last_in changes)
 
 -- ---- the document as it is to be
 
@@ -73,13 +90,38 @@ document_by None version text = None
 document_by (Some address) None text = None
 document_by (Some address) (Some version) None = None
 document_by (Some address) (Some version) (Some text) =
-    Some (record { address = address; version = version; text = text })
+    Some (record { address = address; version = version; text = Some text })
 
 abbrev pub opened_in : Given → Option Document
 opened_in given = document_by (address_in given) (version_in given) (opened_text_in given)
 
-abbrev pub changed_in : Given → Option Document
-changed_in given = document_by (address_in given) (version_in given) (changed_text_in given)
+-- A document after a change. A version that is none leaves the old one.
+abbrev pub changed_in : Given → Document → Document
+changed_in given before = record {
+  address = before.address;
+  version = unwrap_or (version_in given) before.version;
+  text = text_after (changes_in given) before.text;
+}
+
+-- ---- a position
+
+-- a whole number that is not negative
+abbrev pub number_in : Option Data → Option ℕ
+number_in None = None
+number_in (Some d) = option_and_then as_u64 (as_number d)
+
+abbrev pub position_by : Option ℕ → Option ℕ → Option Position
+position_by None column = None
+position_by (Some line) None = None
+position_by (Some line) (Some column) = Some (record { line = line; column = column })
+
+-- the position that the parameters name
+abbrev pub place_of : Given → Option Data
+place_of given = member_in (codes "position") (fields_in given)
+
+abbrev pub position_in : Given → Option Position
+position_in given = position_by (number_in (member_in (codes "line") (place_of given)))
+    (number_in (member_in (codes "character") (place_of given)))
 
 -- ---- the encoding in which columns are counted
 

@@ -6,7 +6,7 @@ use Rattle.psg_grammar.specs.declared.types.Kind.{Kind}
 use Rattle.psg_server.specs.declared.documents.Document.{Document}
 use Rattle.psg_server.specs.declared.server.Server.{Server}
 use Rattle.psg_server.specs.Answering.{Out, sent, silent}
-use Rattle.psg_server.specs.Diagnostics.{IsPublished, closed_data}
+use Rattle.psg_server.specs.Diagnostics.{IsPublished, cleared_data}
 use Rattle.psg_server.specs.Documents.{Becomes, document_at}
 
 -- it is kept, and what is found in it is sent
@@ -18,15 +18,9 @@ pub record IsKept (def : Definition) (kind : Kind) (d : Document) (old new : Ser
   pub published : IsPublished def kind old.encoding d told
   pub out_is : out ≡ sent told
 
--- it is kept where one of its address is open, and else nothing changes
-pub data IsChanged (def : Definition) (kind : Kind) (d : Document) (old new : Server) (out : Out) : Type 0 where
-  unopened : document_at d.address old.documents ≡ None → new ≡ old → out ≡ silent → IsChanged def kind d old new out
-  reopened : (before : Document) → document_at d.address old.documents ≡ Some before → IsKept def kind d old new out
-      → IsChanged def kind d old new out
-
 -- the document with the address is taken away where there is one, and else nothing changes
 pub data IsClosed (address : List ℕ) (old new : Server) (out : Out) : Type 0 where
   was_closed : document_at address old.documents ≡ None → new ≡ old → out ≡ silent → IsClosed address old new out
   is_closed : (d : Document) → document_at address old.documents ≡ Some d → Becomes address None old.documents new.documents
-      → new.encoding ≡ old.encoding → new.phase ≡ old.phase → out ≡ sent (closed_data address)
+      → new.encoding ≡ old.encoding → new.phase ≡ old.phase → out ≡ sent (cleared_data address)
       → IsClosed address old new out

@@ -4,8 +4,10 @@ pub mod Capabilities
 pub mod Diagnostics
 pub mod Documents
 pub mod Edits
+pub mod Hovering
 pub mod Fields
 pub mod Kept
 pub mod Methods
 pub mod Ranges
+pub mod Texts
 pub mod Told

@@ -13,6 +13,7 @@ call_of method =
     if bytes_eq method (codes "initialize") then Some calls.Initialize
     else if bytes_eq method (codes "shutdown") then Some calls.Shutdown
     else if bytes_eq method (codes "textDocument/formatting") then Some calls.Formatting
+    else if bytes_eq method (codes "textDocument/hover") then Some calls.Hover
     else None
 
 -- the note of this name

@@ -1,6 +1,13 @@
 -- What a note says of a document, as a document.
+use Rattle.std.specs.Prelude.{Some}
 use Rattle.psg_server.specs.declared.documents.Document.{Document}
 use Rattle.psg_server.specs.declared.fields.Told.{Told}
+use Rattle.psg_server.specs.declared.server.Place.{Place as Own}
+use Rattle.psg_server.specs.Answering.{Place}
 
 abbrev pub document_of : Told → Document
-document_of told = record { address = told.address.now; version = told.version; text = told.text.now }
+document_of told = record { address = told.address.now; version = told.version; text = Some told.text.now }
+
+-- a position of a document, as the program keeps it
+abbrev pub place_of : Own → Place
+place_of p = record { document = p.document.now; position = p.position }

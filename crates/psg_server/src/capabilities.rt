@@ -17,13 +17,15 @@ fn sync_value(alloc: Global) -> Result<Value, AllocError>
 
 /// Returns what the server can do, with the name of the encoding.
 fn named_capabilities(alloc: Global, name: &str) -> Result<Value, AllocError>
-    ensures { IfOk result (λ v. view v ≡ object (member (codes "documentFormattingProvider") (boolean true) (named name.now))) }
+    ensures { IfOk result (λ v. view v ≡ object (member (codes "documentFormattingProvider") (boolean true)
+        (member (codes "hoverProvider") (boolean true) (named name.now)))) }
 {
     let sync = sync_value(alloc)?;
     json!(in alloc; {
         "textDocumentSync": sync,
         "positionEncoding": name,
-        "documentFormattingProvider": true
+        "documentFormattingProvider": true,
+        "hoverProvider": true
     })
 }
 
@@ -32,7 +34,7 @@ fn plain_capabilities(alloc: Global) -> Result<Value, AllocError>
     ensures { IfOk result (λ v. view v ≡ capabilities_of Encoding.Utf16) }
 {
     let sync = sync_value(alloc)?;
-    json!(in alloc; {"textDocumentSync": sync, "documentFormattingProvider": true})
+    json!(in alloc; {"textDocumentSync": sync, "documentFormattingProvider": true, "hoverProvider": true})
 }
 
 /// Returns what the server can do.

@@ -5,10 +5,11 @@ ghost use Rattle.serde_json.specs.View.{view};
 ghost use Rattle.psg_documents.specs.Positions.{AreStarts};
 ghost use Rattle.psg_grammar.specs.Kinds.{HasKind};
 ghost use Rattle.psg_specimen.specs.Languages.{IsDeclaringPhylum};
-ghost use Rattle.psg_server.specs.Diagnostics.{AreDiagnostics, IsDiagnostic, IsMarked, IsPublished, byte_in, closed_data, closed_params};
+ghost use Rattle.psg_server.specs.Diagnostics.{AreDiagnostics, IsDiagnostic, IsMarked, IsPublished, IsReported, byte_in, cleared_data, cleared_params};
 ghost use Rattle.psg_server.specs.Diagnostics.{diagnostic_data, is_word, marked, publish_data, publish_params, severity_of, word_length};
 
 use crate::documents::Document;
+use crate::fields::Told;
 use crate::ranges::{Page, after, range_value};
 use psg_documents::{Encoding, Lines};
 use psg_grammar::Kind;
@@ -164,21 +165,65 @@ fn publish_params(
     json!(in alloc; {"uri": address, "version": version, "diagnostics": values})
 }
 
-/// Returns the note with the diagnostics of the document.
+/// Returns the note with the diagnostics of a document.
 fn publish_value(
     alloc: Global,
-    document: &Document,
+    address: &str,
+    version: i64,
     values: Vec<Value>,
 ) -> Result<Value, AllocError>
-    ensures { IfOk result (λ v. view v ≡ publish_data document.now.address document.now.version (map view values.items)) }
+    ensures { IfOk result (λ v. view v ≡ publish_data address.now version (map view values.items)) }
 {
-    let params = publish_params(alloc, document.address.as_str(), document.version, values)?;
+    let params = publish_params(alloc, address, version, values)?;
     let told = note(alloc, "textDocument/publishDiagnostics", params)?;
     Ok(told)
 }
 
-/// Returns the note that tells what is found in the text of the document, which is to be a program of the kind. Fails only
-/// when out of memory.
+/// Returns the note that tells what is found in the text of a document, which is to be a program of the kind.
+fn reported<L: Ledger>(
+    alloc: Global,
+    language: &Language,
+    kind: Kind,
+    encoding: Encoding,
+    told: Told<'_>,
+    steps: &mut Steps<L>,
+) -> Result<Value, AllocError>
+    requires kind { HasKind language.now kind }
+    requires quiet_kind { IsDeclaringPhylum language.now kind → ⊥ }
+    ensures { IfOk result (λ v. IsReported language.now kind encoding told.entry.address.now told.entry.version
+        told.entry.text.now (view v)) }
+{
+    let text = told.text;
+    let report = lint(alloc, language, kind, text.as_bytes(), steps)?;
+    let lines = Lines::of(alloc, text)?;
+    let page = Page {
+        encoding,
+        text,
+        lines: &lines,
+    };
+    let values = diagnostics(alloc, &page, &report)?;
+    let value = publish_value(alloc, told.address, told.version, values)?;
+    Ok(value)
+}
+
+/// Returns what is published of a document without diagnostics.
+fn cleared_params(alloc: Global, address: &str) -> Result<Value, AllocError>
+    ensures { IfOk result (λ v. view v ≡ cleared_params address.now) }
+{
+    json!(in alloc; {"uri": address, "diagnostics": []})
+}
+
+/// Returns the note that a document has no diagnostics. Fails only when out of memory.
+pub(crate) fn cleared(alloc: Global, address: &str) -> Result<Value, AllocError>
+    ensures { IfOk result (λ v. view v ≡ cleared_data address.now) }
+{
+    let params = cleared_params(alloc, address)?;
+    let told = note(alloc, "textDocument/publishDiagnostics", params)?;
+    Ok(told)
+}
+
+/// Returns the note that tells what is found in the text of the document, which is to be a program of the kind: nothing where
+/// the text is not known. Fails only when out of memory.
 pub(crate) fn published<L: Ledger>(
     alloc: Global,
     language: &Language,
@@ -191,31 +236,20 @@ pub(crate) fn published<L: Ledger>(
     requires quiet_kind { IsDeclaringPhylum language.now kind → ⊥ }
     ensures { IfOk result (λ v. IsPublished language.now kind encoding document.now (view v)) }
 {
-    let text = document.text.as_str();
-    let report = lint(alloc, language, kind, text.as_bytes(), steps)?;
-    let lines = Lines::of(alloc, text)?;
-    let page = Page {
-        encoding,
-        text,
-        lines: &lines,
-    };
-    let values = diagnostics(alloc, &page, &report)?;
-    let told = publish_value(alloc, document, values)?;
-    Ok(told)
-}
-
-/// Returns what is published of a document that is closed.
-fn closed_params(alloc: Global, address: &str) -> Result<Value, AllocError>
-    ensures { IfOk result (λ v. view v ≡ closed_params address.now) }
-{
-    json!(in alloc; {"uri": address, "diagnostics": []})
-}
-
-/// Returns the note that a document that is closed has no diagnostics.
-pub(crate) fn closed(alloc: Global, address: &str) -> Result<Value, AllocError>
-    ensures { IfOk result (λ v. view v ≡ closed_data address.now) }
-{
-    let params = closed_params(alloc, address)?;
-    let told = note(alloc, "textDocument/publishDiagnostics", params)?;
-    Ok(told)
+    let address = document.address.as_str();
+    match &document.text {
+        Some(text) => {
+            let told = Told {
+                address,
+                version: document.version,
+                text: text.as_str(),
+            };
+            let value = reported(alloc, language, kind, encoding, told, steps)?;
+            Ok(value)
+        }
+        None => {
+            let value = cleared(alloc, address)?;
+            Ok(value)
+        }
+    }
 }

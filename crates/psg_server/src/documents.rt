@@ -14,8 +14,8 @@ pub struct Document {
     pub address: Txt,
     /// The version that the client gave it.
     pub version: i64,
-    /// The text.
-    pub text: Txt,
+    /// The text, where it is known.
+    pub text: Option<Txt>,
 }
 
 /// The documents that a client has open. Contracts see them as a list.

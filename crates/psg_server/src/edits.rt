@@ -1,5 +1,6 @@
 //! The text that a document is to have, as an edit.
-ghost use Rattle.std.specs.Prelude.{ℕ, ◌≡◌, ◌≤◌, ◌↔◌, ◌==◌, List, IfOk, IfSome, IsTrue, Some, cond, drop, length, slice_get, take};
+ghost use Rattle.std.specs.Prelude.{ℕ, ◌≡◌, ◌<◌, ◌≤◌, ◌+◌, ◌-◌, ◌↔◌, ◌==◌, List, IfOk, IfSome, IsTrue, None, Some, cond, drop, length};
+ghost use Rattle.std.specs.Prelude.{slice_get, slice_index, take};
 ghost use Rattle.std.specs.Str.{IsUtf8};
 ghost use Rattle.serde_json.specs.Data.{array, item, no_items, null};
 ghost use Rattle.serde_json.specs.View.{view};
@@ -9,9 +10,10 @@ ghost use Rattle.psg_grammar.specs.declared.types.Definition.{Definition as Plai
 ghost use Rattle.psg_grammar.specs.declared.types.Kind.{Kind as PlainKind};
 ghost use Rattle.psg_documents.specs.declared.encoding.Encoding.{Encoding as PlainEncoding};
 ghost use Rattle.psg_program.specs.Programs.{IsProgram, IsProgramFault};
-ghost use Rattle.psg_server.specs.Edits.{IsEdit, IsFormatting, edit_data};
+ghost use Rattle.psg_server.specs.Edits.{IsEdit, IsFormatting, IsFormattingOf, IsFront, IsTail, edit_data};
 
-use crate::ranges::{Page, after, range_value};
+use crate::documents::Document;
+use crate::ranges::{Page, range_value};
 use psg_documents::{Encoding, Lines};
 use psg_grammar::Kind;
 use psg_program::{ProgramFault, formatted, read_program};
@@ -26,6 +28,7 @@ use std::sync::ledger::Ledger;
 fn common_byte(text: &[u8], wanted: &[u8], place: usize) -> Option<u8>
     ensures text { IfSome result (λ b. slice_get text.now place ≡ Some b) }
     ensures wanted { IfSome result (λ b. slice_get wanted.now place ≡ Some b) }
+    ensures none { result ≡ None → (b : ℕ) → slice_get text.now place ≡ Some b → slice_get wanted.now place ≡ Some b → ⊥ }
 {
     let byte = *text.get(place)?;
     let other = *wanted.get(place)?;
@@ -41,9 +44,7 @@ fn start_after(start: usize, byte: u8, next: usize) -> usize
 
 /// Returns the beginning of the first line in which the text is not the one that is wanted.
 fn same_front(text: &[u8], wanted: &[u8]) -> usize
-    ensures start { IsLineStart text.now result }
-    ensures wanted { IsLineStart wanted.now result }
-    ensures same { take result text.now ≡ take result wanted.now }
+    ensures { IsFront text.now wanted.now result }
 {
     let mut start = 0;
     let mut place = 0;
@@ -54,14 +55,69 @@ fn same_front(text: &[u8], wanted: &[u8]) -> usize
     start
 }
 
-/// Returns the text from a place on.
-fn rest_of(bytes: &[u8], from: usize) -> &str
-    requires within { from ≤ length bytes.now }
-    requires text { IsUtf8 (drop from bytes.now) }
-    ensures { result.now ≡ drop from bytes.now }
+/// Says whether both texts have the same byte in front of their last ones, so many, and after the place.
+fn are_alike(text: &[u8], wanted: &[u8], from: usize, size: usize) -> bool
+    requires text { from + size ≤ length text.now }
+    requires wanted { from + size ≤ length wanted.now }
+    ensures { IsTrue result ↔ ((from + size < length text.now) × ((from + size < length wanted.now)
+        × (slice_index text.now (length text.now - size - 1) ≡ slice_index wanted.now (length wanted.now - size - 1)))) }
 {
-    match str::from_utf8(after(bytes, from)) {
-        Ok(rest) => rest,
+    from + size < text.len()
+        && from + size < wanted.len()
+        && text[text.len() - size - 1] == wanted[wanted.len() - size - 1]
+}
+
+/// Says whether a line begins at the place.
+fn begins_line(bytes: &[u8], place: usize) -> bool
+    requires { place ≤ length bytes.now }
+    ensures { IsTrue result ↔ IsLineStart bytes.now place }
+{
+    place == 0 || bytes[place - 1] == b'\n'
+}
+
+/// Says whether the last bytes, so many, begin with a line in both texts.
+fn begin_lines(text: &[u8], wanted: &[u8], size: usize) -> bool
+    requires text { size ≤ length text.now }
+    requires wanted { size ≤ length wanted.now }
+    ensures { IsTrue result
+        ↔ (IsLineStart text.now (length text.now - size) × IsLineStart wanted.now (length wanted.now - size)) }
+{
+    begins_line(text, text.len() - size) && begins_line(wanted, wanted.len() - size)
+}
+
+/// Returns how many bytes are of whole lines, if so many more are.
+fn tail_with(tail: usize, size: usize, are_lines: bool) -> usize
+    ensures { result ≡ cond are_lines size tail }
+{
+    if are_lines { size } else { tail }
+}
+
+/// Returns how many bytes the whole lines have that are the same at the end, of what is not before the place.
+fn same_back(text: &[u8], wanted: &[u8], from: usize) -> usize
+    requires text { from ≤ length text.now }
+    requires wanted { from ≤ length wanted.now }
+    ensures text { from + result ≤ length text.now }
+    ensures wanted { from + result ≤ length wanted.now }
+    ensures tail { IsTail text.now wanted.now from (length text.now - result) (length wanted.now - result) }
+{
+    let mut tail = 0;
+    let mut size = 0;
+    'back: while are_alike(text, wanted, from, size) {
+        size += 1;
+        tail = tail_with(tail, size, begin_lines(text, wanted, size));
+    }
+    tail
+}
+
+/// Returns the text between two places.
+fn text_between(bytes: &[u8], from: usize, to: usize) -> &str
+    requires up_to { from ≤ to }
+    requires within { to ≤ length bytes.now }
+    requires text { IsUtf8 (take (to - from) (drop from bytes.now)) }
+    ensures { result.now ≡ take (to - from) (drop from bytes.now) }
+{
+    match str::from_utf8(&bytes[from..to]) {
+        Ok(text) => text,
         Err(_) => unreachable!(),
     }
 }
@@ -81,8 +137,9 @@ fn edit_value(alloc: Global, page: &Page<'_>, wanted: &str) -> Result<Value, All
     let text = page.text.as_bytes();
     let bytes = wanted.as_bytes();
     let from = same_front(text, bytes);
-    let new = rest_of(bytes, from);
-    let range = range_value(alloc, page, from, text.len())?;
+    let size = same_back(text, bytes, from);
+    let new = text_between(bytes, from, bytes.len() - size);
+    let range = range_value(alloc, page, from, text.len() - size)?;
     let edit = edit_of(alloc, range, new)?;
     Ok(edit)
 }
@@ -167,8 +224,8 @@ fn without_program(fault: &ProgramFault) -> Result<Value, AllocError>
 }
 
 /// Returns what `formatting` answers for a text that is to be a program of the kind: nothing where it is none, and else the
-/// edits that make it as it is to be. Fails only when out of memory.
-pub(crate) fn formatting<L: Ledger>(
+/// edits that make it as it is to be.
+fn formatting<L: Ledger>(
     alloc: Global,
     language: &Language,
     kind: Kind,
@@ -188,5 +245,27 @@ pub(crate) fn formatting<L: Ledger>(
             let found = without_program(&fault)?;
             Ok(found)
         }
+    }
+}
+
+/// Returns what `formatting` answers for a document, whose text is to be a program of the kind: nothing where the text is not
+/// known. Fails only when out of memory.
+pub(crate) fn document_edits<L: Ledger>(
+    alloc: Global,
+    language: &Language,
+    kind: Kind,
+    encoding: Encoding,
+    document: &Document,
+    steps: &mut Steps<L>,
+) -> Result<Value, AllocError>
+    requires { HasKind language.now kind }
+    ensures { IfOk result (λ v. IsFormattingOf language.now kind encoding document.now.text (view v)) }
+{
+    match &document.text {
+        Some(text) => {
+            let edits = formatting(alloc, language, kind, encoding, text.as_str(), steps)?;
+            Ok(edits)
+        }
+        None => Ok(null_value()),
     }
 }

@@ -1,20 +1,21 @@
 //! What the parameters of a message say.
-ghost use Rattle.std.specs.Prelude.{◌≡◌, codes};
+ghost use Rattle.std.specs.Prelude.{◌≡◌, codes, unwrap_or};
 ghost use Rattle.std.specs.List.{list_any};
 ghost use Rattle.std.specs.Option.{option_map};
-ghost use Rattle.serde_json.specs.Find.{as_str};
+ghost use Rattle.serde_json.specs.Find.{as_str, get};
 ghost use Rattle.serde_json.specs.View.{items_view, view};
 ghost use Rattle.psg_messages.specs.Messages.{given_of};
-ghost use Rattle.psg_server.specs.Fields.{address_in, changed_in, changed_text_in, document_in, encoding_in, fields_in};
-ghost use Rattle.psg_server.specs.Fields.{has_text, is_text, last_of, offered_in, offers, opened_in, opened_text_in};
+ghost use Rattle.psg_server.specs.Fields.{address_in, changes_in, document_in, encoding_in, fields_in, has_text, is_empty};
+ghost use Rattle.psg_server.specs.Fields.{is_part, is_text, last_in, last_of, offered_in, offers, opened_in, opened_text_in};
 ghost use Rattle.psg_server.specs.Fields.{text_in, version_in, whole_in, whole_text};
+ghost use Rattle.psg_server.specs.Fields as fields;
 ghost use Rattle.psg_server.specs.Told.{document_of};
 
-use psg_documents::Encoding;
+use psg_documents::{Encoding, Position};
 use psg_messages::Params;
 use serde_json::Value;
 
-/// What a note says of a document: its address, its version and its text.
+/// What `didOpen` says of a document: its address, its version and its text.
 #[derive(Clone, Copy)]
 pub struct Told<'a> {
     pub address: &'a str,
@@ -78,26 +79,64 @@ fn last_of(items: &[Value]) -> Option<&Value>
     Some(&items[items.len() - 1])
 }
 
+/// Says whether a change has a range, which is not null.
+fn is_part(change: &Value) -> bool
+    ensures { result ≡ is_part (get (codes "range") (view change.now)) }
+{
+    match change.get("range") {
+        Some(range) => !range.is_null(),
+        None => false,
+    }
+}
+
 /// Returns the text of a change of the whole text.
 fn whole_text(change: &Value) -> Option<&str>
     ensures { option_map (λ s. s.now) result ≡ whole_text (Some (view change.now)) }
 {
-    if change.get("range").is_some() {
+    if is_part(change) {
         return None;
     }
     let text = change.get("text")?;
     text.as_str()
 }
 
-/// Returns the text of a document that is changed: that of the last change, if it is one of the whole text.
-fn changed_text_in<'a>(given: Params<'a>) -> Option<&'a str>
-    ensures { option_map (λ s. s.now) result ≡ changed_text_in (given_of given.entry) }
+/// Returns the changes of a document.
+fn changes_in<'a>(given: Params<'a>) -> Option<&'a [Value]>
+    ensures { option_map (λ v. items_view v.now) result ≡ changes_in (given_of given.entry) }
 {
     let fields = fields_in(given)?;
     let changes = fields.get("contentChanges")?;
     let items = changes.as_array()?;
-    let last = last_of(items.as_slice())?;
+    Some(items.as_slice())
+}
+
+/// Says whether a document is given a list without changes.
+pub(crate) fn has_no_changes(given: Params<'_>) -> bool
+    ensures { result ≡ is_empty (changes_in (given_of given.entry)) }
+{
+    match changes_in(given) {
+        Some(changes) => changes.is_empty(),
+        None => false,
+    }
+}
+
+/// Returns the text of the last change, if it is one of the whole text.
+pub(crate) fn last_text_in<'a>(given: Params<'a>) -> Option<&'a str>
+    ensures { option_map (λ s. s.now) result ≡ whole_text (last_in (changes_in (given_of given.entry))) }
+{
+    let changes = changes_in(given)?;
+    let last = last_of(changes)?;
     whole_text(last)
+}
+
+/// Returns the version of a document that is changed, which had the old one.
+pub(crate) fn version_after(given: Params<'_>, old: i64) -> i64
+    ensures { result ≡ unwrap_or (version_in (given_of given.entry)) old }
+{
+    match version_in(given) {
+        Some(version) => version,
+        None => old,
+    }
 }
 
 /// Returns what the parameters of `didOpen` say.
@@ -114,17 +153,47 @@ pub(crate) fn opened_in<'a>(given: Params<'a>) -> Option<Told<'a>>
     })
 }
 
-/// Returns what the parameters of `didChange` say.
-pub(crate) fn changed_in<'a>(given: Params<'a>) -> Option<Told<'a>>
-    ensures { option_map document_of result ≡ changed_in (given_of given.entry) }
+/// Returns the whole number that the value is, if it is one that is not negative.
+fn number_in(value: Option<&Value>) -> Option<u64>
+    ensures { result ≡ fields.number_in (option_map (λ v. view v.now) value.entry) }
 {
-    let address = address_in(given)?;
-    let version = version_in(given)?;
-    let text = changed_text_in(given)?;
-    Some(Told {
-        address,
-        version,
-        text,
+    let value = value?;
+    value.as_u64()
+}
+
+/// Returns the position that the parameters name, as a value.
+fn place_in<'a>(given: Params<'a>) -> Option<&'a Value>
+    ensures { option_map (λ v. view v.now) result ≡ fields.place_of (given_of given.entry) }
+{
+    let fields = fields_in(given)?;
+    fields.get("position")
+}
+
+/// Returns the number of the line that the parameters name.
+fn line_in(given: Params<'_>) -> Option<u64>
+    ensures { result ≡ fields.number_in (fields.member_in (codes "line") (fields.place_of (given_of given.entry))) }
+{
+    let place = place_in(given)?;
+    number_in(place.get("line"))
+}
+
+/// Returns the column that the parameters name.
+fn column_in(given: Params<'_>) -> Option<u64>
+    ensures { result ≡ fields.number_in (fields.member_in (codes "character") (fields.place_of (given_of given.entry))) }
+{
+    let place = place_in(given)?;
+    number_in(place.get("character"))
+}
+
+/// Returns the position that the parameters name.
+pub(crate) fn position_in(given: Params<'_>) -> Option<Position>
+    ensures { result ≡ fields.position_in (given_of given.entry) }
+{
+    let line = line_in(given)?;
+    let column = column_in(given)?;
+    Some(Position {
+        line: line as usize,
+        column: column as usize,
     })
 }
 

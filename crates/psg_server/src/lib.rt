@@ -16,11 +16,12 @@ mod diagnostics;
 mod documents;
 mod edits;
 mod fields;
+mod hovering;
 mod laws;
 mod methods;
 mod ranges;
 mod server;
 
 pub use documents::{Document, Documents};
-pub use laws::others_stay;
+pub use laws::{addresses_stay_apart, last_text_is_kept, others_stay};
 pub use server::{Reply, Server};

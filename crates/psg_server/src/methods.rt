@@ -14,6 +14,8 @@ pub enum Call {
     Shutdown,
     /// `textDocument/formatting`
     Formatting,
+    /// `textDocument/hover`
+    Hover,
 }
 
 /// A note that the server has.
@@ -39,6 +41,8 @@ pub(crate) fn call_of(method: &str) -> Option<Call>
         Some(Call::Shutdown)
     } else if method == "textDocument/formatting" {
         Some(Call::Formatting)
+    } else if method == "textDocument/hover" {
+        Some(Call::Hover)
     } else {
         None
     }

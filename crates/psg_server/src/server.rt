@@ -12,20 +12,25 @@ ghost use Rattle.psg_server.specs.declared.methods.Call.TheVariants as calls;
 ghost use Rattle.psg_server.specs.declared.methods.Notice.TheVariants as notices;
 ghost use Rattle.psg_server.specs.Answering.{Answers, Gets, Serves, out_of, reason_of};
 ghost use Rattle.psg_server.specs.Answering as answering;
-ghost use Rattle.psg_server.specs.Kept.{IsChanged, IsClosed, IsKept};
-ghost use Rattle.psg_server.specs.Told.{document_of};
+ghost use Rattle.psg_server.specs.Fields.{changed_in, changes_in, text_after};
+ghost use Rattle.psg_server.specs.Kept.{IsClosed, IsKept};
+ghost use Rattle.psg_server.specs.Told.{document_of, place_of};
 ghost use Rattle.psg_messages.specs.Answers.{answer_of};
 ghost use Rattle.psg_grammar.specs.declared.types.Definition.{Definition as Plain};
 ghost use Rattle.psg_grammar.specs.declared.types.Kind.{Kind as PlainKind};
 ghost use Rattle.psg_server.specs.Methods.{call_of, is_known, notice_of};
 
 use crate::capabilities::greeting;
-use crate::diagnostics::{closed, published};
+use crate::diagnostics::{cleared, published};
 use crate::documents::{Document, Documents};
-use crate::edits::{formatting, null_value};
-use crate::fields::{Told, address_in, changed_in, encoding_in, opened_in};
+use crate::edits::{document_edits, null_value};
+use crate::fields::{
+    Told, address_in, encoding_in, has_no_changes, last_text_in, opened_in, position_in,
+    version_after,
+};
+use crate::hovering::document_hover;
 use crate::methods::{Call, Notice, call_of, is_known, notice_of};
-use psg_documents::Encoding;
+use psg_documents::{Encoding, Position};
 use psg_grammar::Kind;
 use psg_messages::{
     Fault, Message, Params, Phase, Turn, answer, message_of, parsed, phase_after, refusal, turn_of,
@@ -53,6 +58,13 @@ pub struct Server {
     phase: Phase,
     encoding: Encoding,
     documents: Documents,
+}
+
+/// A position of a document.
+#[derive(Clone, Copy)]
+struct Place<'a> {
+    document: &'a Document,
+    position: Position,
 }
 
 /// Returns the words for the fault.
@@ -84,8 +96,8 @@ fn answered(alloc: Global, id: &Value, value: Value) -> Result<Reply, AllocError
     Ok(Reply::Sent(value))
 }
 
-/// Returns the document that a note tells of.
-fn document(alloc: Global, told: Told<'_>) -> Result<Document, AllocError>
+/// Returns the document that `didOpen` tells of.
+fn opened(alloc: Global, told: Told<'_>) -> Result<Document, AllocError>
     ensures { IfOk result (λ d. d ≡ document_of told.entry) }
 {
     let address = Txt::copy_of(alloc, told.address)?;
@@ -93,6 +105,59 @@ fn document(alloc: Global, told: Told<'_>) -> Result<Document, AllocError>
     Ok(Document {
         address,
         version: told.version,
+        text: Some(text),
+    })
+}
+
+/// Returns the text once more, if there is one.
+fn shared(text: &Option<Txt>) -> Result<Option<Txt>, AllocError>
+    ensures { IfOk result (λ o. o ≡ text.now) }
+{
+    match text {
+        Some(text) => {
+            let one = text.share()?;
+            Ok(Some(one))
+        }
+        None => Ok(None),
+    }
+}
+
+/// Returns a copy of the text, if there is one.
+fn copied(alloc: Global, text: Option<&str>) -> Result<Option<Txt>, AllocError>
+    ensures { IfOk result (λ o. o ≡ option_map (λ t. t.now) text.entry) }
+{
+    match text {
+        Some(text) => {
+            let one = Txt::copy_of(alloc, text)?;
+            Ok(Some(one))
+        }
+        None => Ok(None),
+    }
+}
+
+/// Returns the text of a document after `didChange`.
+fn text_after(
+    alloc: Global,
+    before: &Option<Txt>,
+    given: Params<'_>,
+) -> Result<Option<Txt>, AllocError>
+    ensures { IfOk result (λ o. o ≡ text_after (changes_in (given_of given.entry)) before.now) }
+{
+    if has_no_changes(given) {
+        return shared(before);
+    }
+    copied(alloc, last_text_in(given))
+}
+
+/// Returns a document after `didChange`.
+fn changed(alloc: Global, before: &Document, given: Params<'_>) -> Result<Document, AllocError>
+    ensures { IfOk result (λ d. d ≡ changed_in (given_of given.entry) before.now) }
+{
+    let address = before.address.share()?;
+    let text = text_after(alloc, &before.text, given)?;
+    Ok(Document {
+        address,
+        version: version_after(given, before.version),
         text,
     })
 }
@@ -170,9 +235,55 @@ impl Server {
     {
         match self.open_in(given) {
             Some(document) => {
-                let text = document.text.as_str();
-                let edits = formatting(alloc, language, kind, self.encoding, text, steps)?;
+                let edits = document_edits(alloc, language, kind, self.encoding, document, steps)?;
                 let reply = answered(alloc, id, edits)?;
+                Ok(reply)
+            }
+            None => {
+                let reply = refused(alloc, Some(id), Fault::WrongParams)?;
+                Ok(reply)
+            }
+        }
+    }
+
+    /// Returns the position of an open document that the parameters name.
+    fn place_in(&self, given: Params<'_>) -> Option<Place<'_>>
+        ensures { option_map (λ p. place_of p) result ≡ answering.place_in (given_of given.entry) self.now.documents }
+    {
+        let document = self.open_in(given)?;
+        let position = position_in(given)?;
+        Some(Place { document, position })
+    }
+
+    /// Serves `textDocument/hover`.
+    fn hover<L: Ledger>(
+        &self,
+        alloc: Global,
+        language: &Language,
+        kind: Kind,
+        id: &Value,
+        given: Params<'_>,
+        steps: &mut Steps<L>,
+    ) -> Result<Reply, AllocError>
+        requires { HasKind language.now kind }
+        ensures { IfOk result (λ r. (method : List ℕ) → call_of method ≡ Some calls.Hover
+            → Serves language.now kind self.now (request (view id.now) method (given_of given.entry))
+            self.now.encoding self.now.documents (out_of r)) }
+    {
+        match self.place_in(given) {
+            Some(place) => {
+                let document = place.document;
+                let position = place.position;
+                let told = document_hover(
+                    alloc,
+                    language,
+                    kind,
+                    self.encoding,
+                    document,
+                    position,
+                    steps,
+                )?;
+                let reply = answered(alloc, id, told)?;
                 Ok(reply)
             }
             None => {
@@ -213,24 +324,27 @@ impl Server {
                 let reply = self.format(alloc, language, kind, id, given, steps)?;
                 Ok(reply)
             }
+            Call::Hover => {
+                let reply = self.hover(alloc, language, kind, id, given, steps)?;
+                Ok(reply)
+            }
         }
     }
 
-    /// Keeps the document that a note tells of, and publishes what is found in it.
+    /// Keeps the document, and publishes what is found in it.
     fn keep<L: Ledger>(
         &mut self,
         alloc: Global,
         language: &Language,
         kind: Kind,
-        told: Told<'_>,
+        document: Document,
         steps: &mut Steps<L>,
     ) -> Result<Reply, AllocError>
         requires kind { HasKind language.now kind }
         requires quiet_kind { IsDeclaringPhylum language.now kind → ⊥ }
-        ensures kept { IfOk result (λ r. IsKept language.now kind (document_of told.entry) self.old self.new (out_of r)) }
+        ensures kept { IfOk result (λ r. IsKept language.now kind document self.old self.new (out_of r)) }
         ensures memory { OnErr result (self.new ≡ self.old) }
     {
-        let document = document(alloc, told)?;
         let value = published(alloc, language, kind, self.encoding, &document, steps)?;
         self.documents.put(document)?;
         Ok(Reply::Sent(value))
@@ -255,32 +369,26 @@ impl Server {
     {
         match opened_in(given) {
             Some(told) => {
-                let reply = self.keep(alloc, language, kind, told, steps)?;
+                let document = opened(alloc, told)?;
+                let reply = self.keep(alloc, language, kind, document, steps)?;
                 Ok(reply)
             }
             None => Ok(Reply::Nothing),
         }
     }
 
-    /// Keeps the document that a note of a change tells of, if it is open.
-    fn change_to<L: Ledger>(
-        &mut self,
-        alloc: Global,
-        language: &Language,
-        kind: Kind,
-        told: Told<'_>,
-        steps: &mut Steps<L>,
-    ) -> Result<Reply, AllocError>
-        requires kind { HasKind language.now kind }
-        requires quiet_kind { IsDeclaringPhylum language.now kind → ⊥ }
-        ensures kept { IfOk result (λ r. IsChanged language.now kind (document_of told.entry) self.old self.new (out_of r)) }
-        ensures memory { OnErr result (self.new ≡ self.old) }
+    /// Returns the document that `didChange` names as it is then, if it is open.
+    fn changed(&self, alloc: Global, given: Params<'_>) -> Result<Option<Document>, AllocError>
+        ensures { IfOk result (λ o. o
+            ≡ option_map (changed_in (given_of given.entry)) (answering.open_in (given_of given.entry) self.now.documents)) }
     {
-        if !self.documents.has(told.address) {
-            return Ok(Reply::Nothing);
+        match self.open_in(given) {
+            Some(before) => {
+                let document = changed(alloc, before, given)?;
+                Ok(Some(document))
+            }
+            None => Ok(None),
         }
-        let reply = self.keep(alloc, language, kind, told, steps)?;
-        Ok(reply)
     }
 
     /// Serves `textDocument/didChange`.
@@ -300,9 +408,10 @@ impl Server {
         ensures phase { self.new.phase ≡ self.old.phase }
         ensures memory { OnErr result (self.new ≡ self.old) }
     {
-        match changed_in(given) {
-            Some(told) => {
-                let reply = self.change_to(alloc, language, kind, told, steps)?;
+        let found = self.changed(alloc, given)?;
+        match found {
+            Some(document) => {
+                let reply = self.keep(alloc, language, kind, document, steps)?;
                 Ok(reply)
             }
             None => Ok(Reply::Nothing),
@@ -317,7 +426,7 @@ impl Server {
         if !self.documents.has(address) {
             return Ok(Reply::Nothing);
         }
-        let value = closed(alloc, address)?;
+        let value = cleared(alloc, address)?;
         self.documents.close(address);
         Ok(Reply::Sent(value))
     }

@@ -1,6 +1,6 @@
 use Rattle.std.proofs.Common.{◌+◌, ℕ, sym, subst, arith}
 use Rattle.std.proofs.lemmas.Option.{slice_get_within}
-use Rattle.psg_server.proofs.EditLaws.{IsSame, same_front_is, same_start, same_step, text_start, wanted_start}
+use Rattle.psg_server.proofs.EditLaws.{IsSame, front_is, same_start, same_step}
 use Rattle.psg_server.proofs.edits.same_front.Goals as goal
 
 pub same-init : goal.same-init
@@ -17,11 +17,7 @@ same-preserved c =
     (same_step c.args.text.now c.args.wanted.now c.same.start c.same.place c.in-Some.byte c.in-Some.ensures.text
     c.in-Some.ensures.wanted c.same.invariant)
 
-pub returns-clause-start : goal.returns-clause-start
-returns-clause-start c = text_start c.args.text.now c.args.wanted.now c.same.start c.same.place c.same.invariant
-
-pub returns-clause-wanted : goal.returns-clause-wanted
-returns-clause-wanted c = wanted_start c.args.text.now c.args.wanted.now c.same.start c.same.place c.same.invariant
-
-pub returns-clause-same : goal.returns-clause-same
-returns-clause-same c = same_front_is c.args.text.now c.args.wanted.now c.same.start c.same.place c.same.invariant
+pub returns : goal.returns
+returns c =
+    front_is c.args.text.now c.args.wanted.now c.same.start c.same.place c.same.invariant
+    (c.common_byte.ensures.none c.in_default.is)

@@ -1,9 +1,8 @@
-use Rattle.std.proofs.Common.{List, ℕ, refl, sym, ◌∙◌, ap, subst}
+use Rattle.std.proofs.Common.{refl, sym, ◌∙◌, ap}
 use Rattle.std.specs.Option.{option_map}
 use Rattle.serde_json.specs.View.{view}
 use Rattle.psg_messages.specs.Messages.{given_of}
 use Rattle.psg_server.specs.Answering.{formats, formats_none}
-use Rattle.psg_server.specs.Edits.{IsFormatting}
 use Rattle.psg_server.proofs.ServeLaws.{served_as}
 use Rattle.psg_server.proofs.server.Server.format.Goals as goal
 
@@ -13,8 +12,7 @@ returns-in_ok-reply-in-Some g c = λ method is.
     (formats (view c.args.id.now) method (given_of c.args.given) c.in-Some.document.now
     (view c.in_ok-edits-in-Some.edits) is
     (sym c.open_in.ensures ∙ ap (λ o. option_map (λ d. d.now) o) c.in-Some.is)
-    (subst (λ (t : List ℕ). IsFormatting c.args.language.now c.args.kind c.args.self.now.encoding t (view c.in_ok-edits-in-Some.edits))
-    c.as_str-text.ensures c.in_ok-edits-in-Some.ensures))
+    c.in_ok-edits-in-Some.ensures)
 
 pub returns-in_ok-reply-in-None : goal.returns-in_ok-reply-in-None
 returns-in_ok-reply-in-None g c = λ method is.

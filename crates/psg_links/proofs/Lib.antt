@@ -1,0 +1,7 @@
+mod Agree
+mod AroundLaws
+mod LinkLaws
+mod NamesLaws
+mod PageLaws
+mod RenameLaws
+mod SpotLaws

@@ -1,0 +1,4 @@
+pub mod Walks
+pub mod Judgements
+pub mod Tellings
+pub mod Hovers

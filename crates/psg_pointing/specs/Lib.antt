@@ -1,0 +1,4 @@
+pub mod Pointing
+pub mod Walking
+pub mod Judging
+pub mod Hovering

@@ -1,0 +1,5 @@
+//! What is told at bytes of programs of a small language, worked by hand. It has tests alone.
+#![tactic(auto)]
+
+#[cfg(test)]
+mod tests;
