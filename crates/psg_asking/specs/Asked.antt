@@ -1,4 +1,4 @@
--- Which program is asked about a place, and what is told of it.
+-- Which program is asked about a place, and what is reported about it.
 use Rattle.std.specs.Prelude.{ℕ, ◌≡◌, Bool, true, false, List, Option, Some, None, option_map, Result}
 use Rattle.psg_terms.specs.Names.{Name}
 use Rattle.psg_cache.specs.Annotated.{Annotated, tree_in}
@@ -49,13 +49,14 @@ spot_there blamed spot =
 -- known, and where they are a hundred or the repaired program passes a limit.
 pub data IsAskedAt (def : Definition) (tree : Fragment) (spot : Spot) : Option There → Type 0 where
   itself : IsCompletable def tree → IsAskedAt def tree spot (Some (there tree spot))
-  repaired : (IsCompletable def tree → ⊥) → (r : Repair) → IsRepairOf def tree r → (note : Annotated) → r.note ≡ Some note
+  repaired : (IsCompletable def tree → ⊥) → (r : Repair) → IsRepairOf def tree r → (note : Annotated)
+      → r.note ≡ Some note
       → IsAskedAt def tree spot (option_map (there (tree_in note)) (spot_there r.places.items spot))
   without_note : (IsCompletable def tree → ⊥) → (r : Repair) → IsRepairOf def tree r → r.note ≡ None
       → IsAskedAt def tree spot None
   unknown : (IsCompletable def tree → ⊥) → IsUnknown def tree → IsAskedAt def tree spot None
 
--- ---- what is told
+-- ---- what is reported
 
 abbrev pub menu_of : Spot → Command
 menu_of spot = commands.Menu (At spot.target) spot.place
@@ -76,7 +77,7 @@ pub record IsReadOf (def : Definition) (kind : Kind) (ask : Spot → Command) (r
   pub replies : IsReply def kind t.tree (ask t.spot) reply
   pub is_read : told ≡ read reply
 
--- what is told of it; where no program is asked, that none is
+-- what is reported about it; where no program is asked, that none is
 abbrev pub IsReplyAt : Definition → Kind → (Spot → Command) → (Reply → Read) → Option There → Option Read → Type 0
 IsReplyAt def kind ask read None told = told ≡ None
 IsReplyAt def kind ask read (Some t) told = (texts : Read) × IsReadOf def kind ask read t texts × (told ≡ Some texts)

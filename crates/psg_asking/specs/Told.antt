@@ -1,5 +1,6 @@
--- What a reply tells of a question.
-use Rattle.std.specs.Prelude.{ℕ, ◌==◌, ◌++◌, cond, List, [], ◌∷◌, map, string_bytes, codes, bytes_eq, Option, Some, None}
+-- What a reply says about a question.
+use Rattle.std.specs.Prelude.{ℕ, ◌==◌, ◌++◌, cond, List, [], ◌∷◌, map, string_bytes, codes, bytes_eq, Option, Some}
+use Rattle.std.specs.Prelude.{None}
 use Rattle.std.specs.Prelude.{String, Vec, Result, Ok, Err}
 use Rattle.std.specs.declared.alloc.Global.{Global}
 use Rattle.std.specs.List.{filter, slice_split}
@@ -33,7 +34,7 @@ abbrev pub refusal_in : Reply → Option Refusal
 refusal_in (refused refusal) = Some refusal
 refusal_in (answered lines) = None
 
--- the lines that are answered, as they are written, but for empty ones; or the refusal
+-- the lines that are answered, as they are written, except empty ones; or the refusal
 abbrev pub lines_told : Reply → Result (List (List ℕ)) Refusal
 lines_told (refused refusal) = Err refusal
 lines_told (answered lines) = Ok (filled (written lines))

@@ -21,6 +21,7 @@ use std::alloc::{AllocError, Global};
 /// A program, and what is known of its wrong places.
 #[derive(Clone, Copy)]
 pub struct Known<'a> {
+    /// The program.
     pub program: Program<'a>,
     /// Whether it has no completion.
     pub wrong: bool,
@@ -31,12 +32,15 @@ pub struct Known<'a> {
 /// The program that is asked, with what is known of it, and the spot there.
 #[derive(Drop)]
 pub struct Asked<'a> {
+    /// The note of the program that is asked.
     pub note: &'a Note,
+    /// The spot in that program.
     pub spot: Spot,
 }
 
-/// Returns the program that is asked about a spot, and the spot there: the program itself where it has a completion, else
-/// its repaired program. `None` where that has no such place, and where it is not known. It fails where memory runs out.
+/// Returns the program that is asked about a spot, and the spot there: the program itself where it has a completion,
+/// else its repaired program. `None` where that has no such place, and where it is not known. It fails where memory
+/// runs out.
 pub fn asked_at<'a>(
     alloc: Global,
     known: Known<'a>,

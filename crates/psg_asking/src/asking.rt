@@ -27,9 +27,9 @@ fn place_at(alloc: Global, path: &Path) -> Result<Where, AllocError>
     Ok(Where::At(same))
 }
 
-/// Returns the operators that fit at the spot: those of `menu`, in a wrong program in its repaired program. `None` where
-/// no program is asked: where the repaired program has no such place, and where it is not known. The files stay as they
-/// are. It fails where memory runs out.
+/// Returns the operators that fit at the spot: those of `menu`, in a wrong program in its repaired program. `None`
+/// where no program is asked: where the repaired program has no such place, and where it is not known. The files stay
+/// as they are. It fails where memory runs out.
 pub fn menu_at<F: Files, L: Ledger>(
     alloc: Global,
     known: Known,
@@ -83,8 +83,8 @@ fn menu_in<F: Files, L: Ledger>(
 
 /// Returns the names with which the operator fits at the spot: those of `names`, in a wrong program in its repaired
 /// program, that occur in the program. `None` where no program is asked: where the repaired program has no such place,
-/// and where it is not known; a refusal where the operator has not exactly one name. The files stay as they are. It fails
-/// where memory runs out.
+/// and where it is not known; a refusal where the operator has not exactly one name. The files stay as they are. It
+/// fails where memory runs out.
 pub fn names_at<F: Files, L: Ledger>(
     alloc: Global,
     known: Known,

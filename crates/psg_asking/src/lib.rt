@@ -1,5 +1,5 @@
-//! Questions about a program, which leave it as it is: what may be put at a place, with which names, and what a node can
-//! mean. A wrong program is asked in its repaired program, so that one slip does not make every other place dead.
+//! Questions about a program, which leave it as it is: what may be put at a place, with which names, and what a node
+//! can mean. A wrong program is asked in its repaired program, so that one slip does not make every other place dead.
 //!
 //! ```text
 //! let known = Known { program, wrong, repair: repair.as_ref() };

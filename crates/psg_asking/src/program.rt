@@ -28,15 +28,20 @@ use std::sync::ledger::Ledger;
 /// A program: its language, its kind, and its tree with what is known of it.
 #[derive(Clone, Copy)]
 pub struct Program<'a> {
+    /// Its language.
     pub language: &'a Language,
+    /// Its kind.
     pub kind: Kind,
+    /// Its tree, with the summaries of all nodes.
     pub note: &'a Note,
 }
 
 /// What a command made of a program: the editor after it, and the reply.
 #[derive(Drop)]
 pub struct Done {
+    /// The editor after the command.
     pub editor: Editor,
+    /// The reply of the command.
     pub reply: Reply,
 }
 

@@ -37,7 +37,7 @@ fn words_read(alloc: Global, reply: &Reply) -> Result<Result<Vec<String>, Refusa
     }
 }
 
-/// Returns the lines that were answered, but for empty ones, or the refusal. It fails where memory runs out.
+/// Returns the lines that were answered, except empty ones, or the refusal. It fails where memory runs out.
 pub(crate) fn lines_told(
     alloc: Global,
     reply: Reply,
@@ -50,7 +50,7 @@ pub(crate) fn lines_told(
     Ok(read)
 }
 
-/// Returns the lines that were answered, but for empty ones, or the refusal.
+/// Returns the lines that were answered, except empty ones, or the refusal.
 fn lines_read(alloc: Global, reply: &Reply) -> Result<Result<Vec<String>, Refusal>, AllocError>
     ensures { IfOk result (λ read. told.read_of read ≡ told.lines_told (reply_of reply.now)) }
 {
@@ -117,7 +117,7 @@ fn is_none(line: &str) -> bool
     line == "none"
 }
 
-/// Adds the parts of the text between this character, which is ASCII, but for empty ones.
+/// Adds the parts of the text between this character, which is ASCII, except empty ones.
 fn push_parts(
     alloc: Global,
     parts: &mut Vec<String>,

@@ -64,7 +64,7 @@ DifferBefore zero cs ds = Unit {0}
 DifferBefore (suc k) cs ds =
     (c : Fragment) × (d : Fragment) × (slice_get cs k ≡ Some c) × (slice_get ds k ≡ Some d) × (c ≡ d → ⊥)
 
--- so many of the last children are the same
+-- that many of the last children are the same
 pub record IsBack (old : Annotated) (new : Fragment) (back : ℕ) : Type 0 where
   pub old_within : back ≤ length (below_in old)
   pub new_within : back ≤ length (children_of new)

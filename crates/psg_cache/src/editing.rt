@@ -328,11 +328,10 @@ fn exchanged<L: Ledger>(
 /// The new tree is compared with the old node, place by place, in one step for each of its nodes and the bytes of its
 /// names and texts: equal subtrees at the same places keep their notes, and where the trees are equal the note is the
 /// old one. Of a list that got longer or shorter the last elements are compared first, from the end on: those that both
-/// have in common keep their notes. The nodes on the path are evaluated again, of a list on it the cells up to the path's element, up to where
-/// a summary is the old one; all else is shared.
-/// `steps` counts the evaluations, whatever is answered. The faults are tested as by `build`: `Deep`, `Big`, then
-/// `Wide` with the first step of the resulting tree whose relation passes the limit, then `Heavy`. `Memory` is returned
-/// when memory runs out, at any time.
+/// have in common keep their notes. The nodes on the path are evaluated again, of a list on it the cells up to the
+/// path's element, up to where a summary is the old one; all else is shared. `steps` counts the evaluations, whatever
+/// is answered. The faults are tested as by `build`: `Deep`, `Big`, then `Wide` with the first step of the resulting
+/// tree whose relation passes the limit, then `Heavy`. `Memory` is returned when memory runs out, at any time.
 pub fn replaced<L: Ledger>(
     alloc: Global,
     definition: &Definition,

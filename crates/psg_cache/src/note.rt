@@ -36,7 +36,7 @@ pub struct Note {
     shared: Rc<NoteNode>,
 }
 
-// written out, so that it is proved once, and not anew in each crate where such a value is let go
+// written out, so that it is proved once, and not again in each crate where such a value is let go
 impl Drop for Note {
     #[cycle(note)]
     fn drop(self) {

@@ -2,7 +2,8 @@
 ghost use Rattle.std.specs.Prelude.{◌≡◌, ◌||◌, ◌&&◌, ◌≢◌, ◌+◌, ◌*◌, ◌<◌, ◌≤◌, ◌⊎◌, ◌↔◌};
 ghost use Rattle.std.specs.Prelude.{IfOk, OnOk, List, Contains, get_or, length, not, true, false, ℕ};
 ghost use Rattle.std.specs.Bool.{OnTrue, OnFalse};
-ghost use Rattle.psg_class.specs.Grids.{AreChains, AreInside, AreLinks, AreSetCells, begins_in, Derives, once, twice, Follows, is_at, IsCell};
+ghost use Rattle.psg_class.specs.Grids.{AreChains, AreInside, AreLinks, AreSetCells, begins_in, Derives, once, twice};
+ghost use Rattle.psg_class.specs.Grids.{Follows, is_at, IsCell};
 ghost use Rattle.psg_class.specs.Grids.{HasSetBelow, IsGrid, is_set, IsSameSize, IsStep, IsTable, unset};
 ghost use Rattle.psg_class.specs.declared.grid.Link.{Link as Linked};
 
@@ -36,7 +37,7 @@ pub(crate) struct Cell {
 }
 
 impl Grid {
-    /// A table in which nothing is set. It is out of memory where it would have more than 2^30 cells.
+    /// Makes a table in which nothing is set. It is out of memory if the table would have more than 2^30 cells.
     #[tactic(auto, using(crate::proofs::LargeLaws::large_product))]
     pub(crate) fn new(alloc: Global, height: usize, width: usize) -> Result<Grid, AllocError>
         ensures height { IfOk result (λ g. g.height ≡ height) }
@@ -57,7 +58,7 @@ impl Grid {
         })
     }
 
-    /// Whether the cell is set.
+    /// Says whether the cell is set.
     pub(crate) fn has(&self, row: usize, column: usize) -> bool
         requires grid { IsGrid self.now }
         requires cell { IsCell self.now row column }
@@ -87,7 +88,7 @@ impl Grid {
     }
 }
 
-/// The table of the cells.
+/// Returns the table of the cells.
 pub(crate) fn marked(
     alloc: Global,
     height: usize,

@@ -61,7 +61,7 @@ impl Rows {
 }
 
 impl Draft {
-    /// The terminal is in the row.
+    /// Puts the terminal into the row.
     fn put(&mut self, row: usize, column: usize)
         requires draft { IsDraft self.old.grid.height self.old.grid.width self.old }
         requires cell { IsCell self.old.grid row column }
@@ -70,7 +70,7 @@ impl Draft {
         self.grid.set(row, column);
     }
 
-    /// The terminal is in the row, if this holds.
+    /// Puts the terminal into the row, if the condition holds.
     fn put_if(&mut self, holds: bool, row: usize, column: usize)
         requires draft { IsDraft self.old.grid.height self.old.grid.width self.old }
         requires cell { IsCell self.old.grid row column }
@@ -81,7 +81,7 @@ impl Draft {
         }
     }
 
-    /// What is in the row `from` is in the row `to`.
+    /// Says that the row `to` has all that the row `from` has.
     fn link(&mut self, to: usize, from: usize) -> Result<(), AllocError>
         requires draft { IsDraft self.old.grid.height self.old.grid.width self.old }
         requires to { to < self.old.grid.height }
@@ -237,7 +237,7 @@ pub(crate) struct Numbers<'a> {
     pub(crate) closing: usize,
 }
 
-/// The sets of all rows.
+/// Returns the sets of all rows.
 pub(crate) fn sets(
     alloc: Global,
     width: usize,

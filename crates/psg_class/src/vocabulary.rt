@@ -1,5 +1,6 @@
 //! The terminals of a definition, by number.
-ghost use Rattle.std.specs.Prelude.{◌≡◌, ◌+◌, ◌^◌, ◌<◌, IfOk, IsOk, OnOk, Some, length, option_copied, string_bytes, true};
+ghost use Rattle.std.specs.Prelude.{◌≡◌, ◌+◌, ◌^◌, ◌<◌, IfOk, IsOk, OnOk, Some, length, option_copied, string_bytes};
+ghost use Rattle.std.specs.Prelude.{true};
 ghost use Rattle.psg_terms.specs.Names.{is_among};
 ghost use Rattle.psg_grammar.specs.WellFormed.{separators, operator_words, words_in};
 ghost use Rattle.psg_class.specs.Numbers.{Grown, HasWords, IsConsistent, is_number_before, IsVocabulary};

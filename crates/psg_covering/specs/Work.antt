@@ -3,7 +3,7 @@ use Rattle.std.specs.Prelude.{ℕ, ◌+◌, ◌*◌, List, sum_by}
 use Rattle.psg_terms.specs.Terms.{Term}
 use Rattle.psg_terms.specs.Weight.{symbols_of}
 
--- to look up a term under one key, where so many hole rows are found
+-- to look up a term under one key, where that many hole rows are found
 abbrev pub look_work : ℕ → ℕ
 look_work found = 16 + found
 

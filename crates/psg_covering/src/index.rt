@@ -27,9 +27,9 @@ const WIDTH: u64 = 0x10_0000;
 /// under the key of all of them.
 #[derive(Drop)]
 pub(crate) struct Index {
-    /// By the key of so many constructors: the hole rows whose terms begin with these, and may go on.
+    /// By the key of that many constructors: the hole rows whose terms begin with these, and may go on.
     pub(crate) passing: HashMap<u64, Vec<usize>>,
-    /// By the key of so many constructors: the hole rows whose terms begin with these and no more that are looked at.
+    /// By the key of that many constructors: the hole rows whose terms begin with these and no more that are looked at.
     pub(crate) ending: HashMap<u64, Vec<usize>>,
 }
 

@@ -34,7 +34,7 @@ pub fn search_room() -> Room
     Room::of(MOST_WORK)
 }
 
-/// Takes what it takes to look up a term under one key, where so many hole rows are.
+/// Takes what it takes to look up a term under one key, where that many hole rows are.
 pub(crate) fn spend_look(room: &mut Room, found: usize) -> Result<(), AllocError>
     ensures { OnOk result (room.old.left ≡ room.new.left + look_work found) }
 {

@@ -44,7 +44,7 @@ impl<'a> Model for CheckedLines<'a> {
     ghost invariant = { λ c. AreChecked c.entries.now c.names };
 }
 
-/// The position of a name that is among them.
+/// Returns the position of a name that is among them.
 fn place(names: &Names, name: &str) -> usize
     requires { IsTrue (has names.now name.now) }
     ensures { slice_get (listed names.now) result ≡ Some name.now }
@@ -55,7 +55,7 @@ fn place(names: &Names, name: &str) -> usize
     }
 }
 
-/// The position of a name, if it is among fewer than 2^32.
+/// Returns the position of a name, if it is among fewer than 2^32.
 fn found(names: &Names, name: &str) -> Option<u32>
     requires { length (listed names.now) < 2 ^ 32 }
     ensures there { is_some result ≡ has names.now name.now }
@@ -67,7 +67,7 @@ fn found(names: &Names, name: &str) -> Option<u32>
     }
 }
 
-/// The position of a name that is among fewer than 2^32.
+/// Returns the position of a name that is among fewer than 2^32.
 fn number(names: &Names, name: &str) -> u32
     requires few { length (listed names.now) < 2 ^ 32 }
     requires there { IsTrue (has names.now name.now) }

@@ -13,7 +13,7 @@ use crate::above::Above;
 use crate::scope::Scope;
 use psg_deflines::{Line, LineItem, LinePart, LinePlace, LineTerm, LineTree, TermShape, TreeShape};
 
-/// Whether the constructor, if a line declares it, takes this many arguments.
+/// Says whether the constructor, if a line declares it, takes this many arguments.
 fn has_arity(scope: &Scope, name: &str, count: usize) -> bool
     ensures { IsTrue result ↔ meanings.IsArity (scopes.constructor_declared scope.now name.now) count }
 {
@@ -23,7 +23,7 @@ fn has_arity(scope: &Scope, name: &str, count: usize) -> bool
     }
 }
 
-/// Whether the term's constructors have the arguments that they take.
+/// Says whether the term's constructors have the arguments that they take.
 #[cycle(counts_term)]
 fn counts_term(scope: &Scope, term: &LineTerm) -> bool
     ensures { IsTrue result ↔ meanings.CountsTerm scope.now 0 term.now }
@@ -37,7 +37,7 @@ fn counts_term(scope: &Scope, term: &LineTerm) -> bool
     }
 }
 
-/// Whether the terms' constructors have the arguments that they take.
+/// Says whether the terms' constructors have the arguments that they take.
 #[cycle(counts_term)]
 fn counts_terms(scope: &Scope, terms: &[LineTerm]) -> bool
     ensures { IsTrue result ↔ AllByRecursion (meanings.CountsTerm scope.now 0) terms.now }
@@ -50,7 +50,7 @@ fn counts_terms(scope: &Scope, terms: &[LineTerm]) -> bool
     true
 }
 
-/// Whether a tree, a name, a number or a text is at the item.
+/// Says whether a tree, a name, a number or a text is at the item.
 fn has_part(item: &LineItem) -> bool
     ensures { result ≡ meanings.has_part item.now }
 {
@@ -64,7 +64,7 @@ fn has_part(item: &LineItem) -> bool
     }
 }
 
-/// Whether a row has a column for the item.
+/// Says whether a row has a column for the item.
 fn has_column(item: &LineItem) -> bool
     ensures { result ≡ meanings.has_column item.now }
 {
@@ -76,7 +76,7 @@ fn has_column(item: &LineItem) -> bool
     }
 }
 
-/// How many parts an operator of these items has.
+/// Returns how many parts an operator of these items has.
 fn part_count(items: &[LineItem]) -> usize
     ensures { result ≡ meanings.count_of meanings.has_part items.now }
 {
@@ -89,7 +89,7 @@ fn part_count(items: &[LineItem]) -> usize
     count
 }
 
-/// How many columns the rows of an operator of these items have.
+/// Returns how many columns the rows of an operator of these items have.
 fn column_count(items: &[LineItem]) -> usize
     ensures { result ≡ meanings.count_of meanings.has_column items.now }
 {
@@ -102,7 +102,7 @@ fn column_count(items: &[LineItem]) -> usize
     count
 }
 
-/// Whether the operator, if a line declares it, has this many parts.
+/// Says whether the operator, if a line declares it, has this many parts.
 fn has_part_count(scope: &Scope, name: &str, count: usize) -> bool
     ensures { IsTrue result ↔ meanings.IsPartCount (scopes.operator_declared scope.now name.now) count }
 {
@@ -112,7 +112,7 @@ fn has_part_count(scope: &Scope, name: &str, count: usize) -> bool
     }
 }
 
-/// Whether the operator of the row has this many columns.
+/// Says whether the operator of the row has this many columns.
 fn has_column_count(above: &Above, count: usize) -> bool
     ensures { IsTrue result ↔ meanings.IsColumnCount (option_map operator_told above.now.operator) count }
 {
@@ -122,7 +122,7 @@ fn has_column_count(above: &Above, count: usize) -> bool
     }
 }
 
-/// Whether the constructors of a list's rest have the arguments that they take.
+/// Says whether the constructors of a list's rest have the arguments that they take.
 fn counts_end(scope: &Scope, rest: &Option<LinePlace>) -> bool
     ensures { IsTrue result ↔ CountsEnd scope.now rest.now }
 {
@@ -132,7 +132,7 @@ fn counts_end(scope: &Scope, rest: &Option<LinePlace>) -> bool
     }
 }
 
-/// Whether the constructors and operators of a part have the arguments and parts that they take.
+/// Says whether the constructors and operators of a part have the arguments and parts that they take.
 #[cycle(counts_tree)]
 fn counts_part(scope: &Scope, part: &LinePart) -> bool
     ensures { IsTrue result ↔ CountsPart scope.now part.now }
@@ -143,7 +143,7 @@ fn counts_part(scope: &Scope, part: &LinePart) -> bool
     }
 }
 
-/// Whether the constructors and operators of parts have the arguments and parts that they take.
+/// Says whether the constructors and operators of parts have the arguments and parts that they take.
 #[cycle(counts_tree)]
 fn counts_parts(scope: &Scope, parts: &[LinePart]) -> bool
     ensures { IsTrue result ↔ AllByRecursion (CountsPart scope.now) parts.now }
@@ -156,7 +156,7 @@ fn counts_parts(scope: &Scope, parts: &[LinePart]) -> bool
     true
 }
 
-/// Whether the constructors and operators of specimens have the arguments and parts that they take.
+/// Says whether the constructors and operators of specimens have the arguments and parts that they take.
 #[cycle(counts_tree)]
 fn counts_trees(scope: &Scope, trees: &[LineTree]) -> bool
     ensures { IsTrue result ↔ AllByRecursion (meanings.CountsTree scope.now 0) trees.now }
@@ -169,7 +169,7 @@ fn counts_trees(scope: &Scope, trees: &[LineTree]) -> bool
     true
 }
 
-/// Whether the constructors and operators of a specimen have the arguments and parts that they take.
+/// Says whether the constructors and operators of a specimen have the arguments and parts that they take.
 #[cycle(counts_tree)]
 fn counts_tree(scope: &Scope, tree: &LineTree) -> bool
     ensures { IsTrue result ↔ meanings.CountsTree scope.now 0 tree.now }
@@ -186,7 +186,8 @@ fn counts_tree(scope: &Scope, tree: &LineTree) -> bool
     }
 }
 
-/// Whether the constructors and operators of a specimen, if there is one, have the arguments and parts that they take.
+/// Says whether the constructors and operators of a specimen, if there is one, have the arguments and parts that they
+/// take.
 fn counts_behind_by(scope: &Scope, specimen: &Option<LineTree>) -> bool
     ensures { IsTrue result ↔ meanings.CountsBehindBy scope.now specimen.now }
 {
@@ -196,8 +197,8 @@ fn counts_behind_by(scope: &Scope, specimen: &Option<LineTree>) -> bool
     }
 }
 
-/// Whether the terms of a row are as many as its operator's columns, and their constructors have the arguments that
-/// they take.
+/// Says whether the terms of a row are as many as its operator's columns, and their constructors have the arguments
+/// that they take.
 fn counts_row(scope: &Scope, above: &Above, head: &LineTerm, columns: &[LineTerm]) -> bool
     ensures { (lines : List Plain) → IsAbove lines above.now
         → IsTrue result ↔ (meanings.CountsTerm scope.now 0 head.now

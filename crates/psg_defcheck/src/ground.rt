@@ -18,7 +18,7 @@ use psg_deflines::Line;
 use psg_terms::{ConDecl, SortDecl, Txt};
 use std::alloc::{AllocError, Global};
 
-/// Whether each of the sorts is marked.
+/// Says whether each of the sorts is marked.
 fn are_marked(marks: &Names, sorts: &[Txt]) -> bool
     ensures { IsTrue result ↔ AreMarked marks.now sorts.now }
 {
@@ -30,7 +30,7 @@ fn are_marked(marks: &Names, sorts: &[Txt]) -> bool
     true
 }
 
-/// Whether one of the constructors has arguments of marked sorts alone.
+/// Says whether one of the constructors has arguments of marked sorts alone.
 fn makes_ground(marks: &Names, constructors: &[ConDecl]) -> bool
     ensures { IsTrue result ↔ MakesGround marks.now constructors.now }
 {
@@ -64,7 +64,7 @@ fn mark<'a>(scope: &Scope<'a>, marks: &mut Names<'a>, name: &'a str) -> Result<b
     Ok(true)
 }
 
-/// The sort whose line the entry is, if it is one.
+/// Returns the sort whose line the entry is, if it is one.
 fn sort_line(entry: &Option<Line>) -> Option<&SortDecl>
     ensures { MatchOption result (sort_names (written (entry.now ∷ [])) ≡ [])
         (λ d. entry.now ≡ Some (Line.Sort d.now)) }

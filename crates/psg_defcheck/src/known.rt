@@ -8,7 +8,7 @@ use crate::scope::Scope;
 use psg_deflines::{Line, LineItem, LinePart, LinePlace, LineTerm, LineTree, TermShape, TreeShape};
 use psg_terms::{ConDecl, Txt};
 
-/// Whether lines declare the term's constructors.
+/// Says whether lines declare the term's constructors.
 #[cycle(knows_term)]
 fn knows_term(scope: &Scope, term: &LineTerm) -> bool
     ensures { IsTrue result ↔ meanings.KnowsTerm scope.now term.now }
@@ -21,7 +21,7 @@ fn knows_term(scope: &Scope, term: &LineTerm) -> bool
     }
 }
 
-/// Whether lines declare the terms' constructors.
+/// Says whether lines declare the terms' constructors.
 #[cycle(knows_term)]
 fn knows_terms(scope: &Scope, terms: &[LineTerm]) -> bool
     ensures { IsTrue result ↔ AllByRecursion (meanings.KnowsTerm scope.now) terms.now }
@@ -34,14 +34,14 @@ fn knows_terms(scope: &Scope, terms: &[LineTerm]) -> bool
     true
 }
 
-/// Whether lines declare the kind and the constructors of a place.
+/// Says whether lines declare the kind and the constructors of a place.
 fn knows_place(scope: &Scope, place: &LinePlace) -> bool
     ensures { IsTrue result ↔ KnowsPlace scope.now place.now }
 {
     scope.is_kind(place.kind.as_str()) && knows_term(scope, &place.term)
 }
 
-/// Whether lines declare the list and the constructors of a list's rest.
+/// Says whether lines declare the list and the constructors of a list's rest.
 fn knows_end(scope: &Scope, rest: &Option<LinePlace>) -> bool
     ensures { IsTrue result ↔ KnowsEnd scope.now rest.now }
 {
@@ -51,7 +51,7 @@ fn knows_end(scope: &Scope, rest: &Option<LinePlace>) -> bool
     }
 }
 
-/// Whether lines declare the names of a part.
+/// Says whether lines declare the names of a part.
 #[cycle(knows_tree)]
 fn knows_part(scope: &Scope, part: &LinePart) -> bool
     ensures { IsTrue result ↔ KnowsPart scope.now part.now }
@@ -62,7 +62,7 @@ fn knows_part(scope: &Scope, part: &LinePart) -> bool
     }
 }
 
-/// Whether lines declare the names of parts.
+/// Says whether lines declare the names of parts.
 #[cycle(knows_tree)]
 fn knows_parts(scope: &Scope, parts: &[LinePart]) -> bool
     ensures { IsTrue result ↔ AllByRecursion (KnowsPart scope.now) parts.now }
@@ -75,7 +75,7 @@ fn knows_parts(scope: &Scope, parts: &[LinePart]) -> bool
     true
 }
 
-/// Whether lines declare the names of specimens.
+/// Says whether lines declare the names of specimens.
 #[cycle(knows_tree)]
 fn knows_trees(scope: &Scope, trees: &[LineTree]) -> bool
     ensures { IsTrue result ↔ AllByRecursion (meanings.KnowsTree scope.now) trees.now }
@@ -88,7 +88,7 @@ fn knows_trees(scope: &Scope, trees: &[LineTree]) -> bool
     true
 }
 
-/// Whether lines declare the names of a specimen.
+/// Says whether lines declare the names of a specimen.
 #[cycle(knows_tree)]
 fn knows_tree(scope: &Scope, tree: &LineTree) -> bool
     ensures { IsTrue result ↔ meanings.KnowsTree scope.now tree.now }
@@ -104,7 +104,7 @@ fn knows_tree(scope: &Scope, tree: &LineTree) -> bool
     }
 }
 
-/// Whether lines declare the names of a specimen, if there is one.
+/// Says whether lines declare the names of a specimen, if there is one.
 fn knows_behind_by(scope: &Scope, specimen: &Option<LineTree>) -> bool
     ensures { IsTrue result ↔ meanings.KnowsBehindBy scope.now specimen.now }
 {
@@ -114,7 +114,7 @@ fn knows_behind_by(scope: &Scope, specimen: &Option<LineTree>) -> bool
     }
 }
 
-/// Whether lines declare the sorts.
+/// Says whether lines declare the sorts.
 fn knows_sorts(scope: &Scope, sorts: &[Txt]) -> bool
     ensures { IsTrue result ↔ AllByRecursion (meanings.KnowsSort scope.now) sorts.now }
 {
@@ -126,7 +126,7 @@ fn knows_sorts(scope: &Scope, sorts: &[Txt]) -> bool
     true
 }
 
-/// Whether lines declare the sorts of the constructors' arguments.
+/// Says whether lines declare the sorts of the constructors' arguments.
 fn knows_arguments(scope: &Scope, constructors: &[ConDecl]) -> bool
     ensures { IsTrue result ↔ AllByRecursion
         (λ c. AllByRecursion (meanings.KnowsSort scope.now) c.args) constructors.now }
@@ -139,7 +139,7 @@ fn knows_arguments(scope: &Scope, constructors: &[ConDecl]) -> bool
     true
 }
 
-/// Whether lines declare the space, if it is named.
+/// Says whether lines declare the space, if it is named.
 fn knows_space(scope: &Scope, space: &Txt) -> bool
     ensures { IsTrue result ↔ meanings.KnowsSpace scope.now space.now }
 {
@@ -150,7 +150,7 @@ fn knows_space(scope: &Scope, space: &Txt) -> bool
     scope.space(name).is_some()
 }
 
-/// Whether lines declare the kind or the space of an item, if it names one.
+/// Says whether lines declare the kind or the space of an item, if it names one.
 fn knows_item(scope: &Scope, item: &LineItem) -> bool
     ensures { IsTrue result ↔ meanings.KnowsItem scope.now item.now }
 {
@@ -162,7 +162,7 @@ fn knows_item(scope: &Scope, item: &LineItem) -> bool
     }
 }
 
-/// Whether lines declare the kinds and spaces of the items.
+/// Says whether lines declare the kinds and spaces of the items.
 fn knows_items(scope: &Scope, items: &[LineItem]) -> bool
     ensures { IsTrue result ↔ AllByRecursion (meanings.KnowsItem scope.now) items.now }
 {

@@ -12,7 +12,7 @@ use psg_deflines::Line;
 use psg_terms::ConDecl;
 use std::alloc::{AllocError, Global};
 
-/// Whether no name of the constructors is there twice or is one of the names.
+/// Says whether no name of the constructors is there twice or is one of the names.
 fn are_new(alloc: Global, names: &Names, constructors: &[ConDecl]) -> Result<bool, AllocError>
     ensures { IfOk result (λ b. (before : List Name) → AreNames before names.now
         → IsTrue b ↔ AreFresh before constructors.now) }

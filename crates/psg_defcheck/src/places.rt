@@ -79,7 +79,7 @@ pub fn sort_places<'a>(
     Ok(places)
 }
 
-/// The place of an item's column, if it has one.
+/// Returns the place of an item's column, if it has one.
 fn column_place<'a>(scope: &Scope<'a>, item: &'a LineItem) -> Option<Option<&'a str>>
     ensures { MatchOption result (meanings.column_places scope.now (item.now ∷ []) ≡ [])
         (λ p. meanings.column_places scope.now (item.now ∷ []) ≡ place_told p ∷ []) }
@@ -109,7 +109,7 @@ pub fn column_places<'a>(
     Ok(places)
 }
 
-/// The place of an item's part, if it has one.
+/// Returns the place of an item's part, if it has one.
 fn part_place<'a>(scope: &Scope<'a>, item: &'a LineItem) -> Option<PartPlace<'a>>
     ensures { MatchOption result (meanings.part_places scope.now (item.now ∷ []) ≡ [])
         (λ p. meanings.part_places scope.now (item.now ∷ []) ≡ part_place_told p ∷ []) }

@@ -8,7 +8,7 @@ use crate::scope::Scope;
 use psg_deflines::{Line, LineItem};
 use psg_terms::ConDecl;
 
-/// Whether a name is at the item.
+/// Says whether a name is at the item.
 fn is_name_item(item: &LineItem) -> bool
     ensures { result ≡ meanings.is_name_item item.now }
 {
@@ -19,14 +19,14 @@ fn is_name_item(item: &LineItem) -> bool
     }
 }
 
-/// Whether a name is at one of the items.
+/// Says whether a name is at one of the items.
 fn has_name_item(items: &[LineItem]) -> bool
     ensures { result ≡ list_any meanings.is_name_item items.now }
 {
     items.iter().any(|item| is_name_item(item))
 }
 
-/// Whether names need no sort, or have one.
+/// Says whether names need no sort, or have one.
 fn may_have_names(scope: &Scope, items: &[LineItem]) -> bool
     ensures { IsTrue result ↔
         ((list_any meanings.is_name_item items.now ≡ false) ⊎ IsTrue (is_some (scopes.entity_sort scope.now))) }
@@ -49,7 +49,7 @@ pub fn has_entity(scope: &Scope, line: &Line) -> bool
     }
 }
 
-/// Whether there are more constructors than one, or the only one has no arguments.
+/// Says whether there are more constructors than one, or the only one has no arguments.
 fn is_choice(constructors: &[ConDecl]) -> bool
     ensures { IsTrue result ↔ meanings.IsChoice constructors.now }
 {

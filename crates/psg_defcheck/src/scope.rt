@@ -94,7 +94,7 @@ impl<'a> Scope<'a> {
         self.tables.spaces.get(name).copied()
     }
 
-    /// The sort of a space; the empty name means the first one.
+    /// Returns the sort of a space; the empty name means the first one.
     fn space_sort(&self, name: &str) -> Option<&'a str>
         ensures { option_map name_told result ≡ scopes.space_sort self.now name.now }
     {

@@ -21,7 +21,7 @@ use std::collections::HashMap;
 /// The sorts of the variables of a line so far: a variable has the sort of its first place of known sort.
 pub type Sorts<'a> = HashMap<&'a str, &'a str>;
 
-/// Whether the variable may be at the place. It then has the sort of the place.
+/// Says whether the variable may be at the place. It then has the sort of the place.
 fn sorts_variable<'a>(
     sorts: &mut Sorts<'a>,
     place: Option<&'a str>,

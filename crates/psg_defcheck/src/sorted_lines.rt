@@ -18,7 +18,7 @@ use psg_deflines::{Line, LineTerm, LineTree};
 use std::alloc::{AllocError, Global};
 use std::collections::HashMap;
 
-/// Whether a row's terms may be at the places of its operator's value and columns.
+/// Says whether a row's terms may be at the places of its operator's value and columns.
 fn sorts_row<'a>(
     alloc: Global,
     scope: &Scope<'a>,
@@ -49,7 +49,7 @@ fn sorts_row<'a>(
     Ok(fits)
 }
 
-/// Whether the terms of a cell row may be at the places of the list, its elements and the list again.
+/// Says whether the terms of a cell row may be at the places of the list, its elements and the list again.
 fn sorts_cell<'a>(
     alloc: Global,
     scope: &Scope<'a>,
@@ -83,7 +83,7 @@ fn sorts_cell<'a>(
     Ok(fits)
 }
 
-/// Whether the term may be at the place, and the specimen at a place of the kind.
+/// Says whether the term may be at the place, and the specimen at a place of the kind.
 fn sorts_by<'a>(
     alloc: Global,
     scope: &Scope<'a>,
@@ -106,7 +106,7 @@ fn sorts_by<'a>(
     Ok(fits)
 }
 
-/// Whether the term of a hole row and its specimen, if it has one, may be at the places of the kind.
+/// Says whether the term of a hole row and its specimen, if it has one, may be at the places of the kind.
 fn sorts_hole<'a>(
     alloc: Global,
     scope: &Scope<'a>,
@@ -136,7 +136,8 @@ fn sorts_hole<'a>(
     }
 }
 
-/// Whether the terms and the specimen of a declare row may be at the places of the space and of the list's elements.
+/// Says whether the terms and the specimen of a declare row may be at the places of the space and of the list's
+/// elements.
 fn sorts_declare<'a>(
     alloc: Global,
     scope: &Scope<'a>,
@@ -169,7 +170,7 @@ fn sorts_declare<'a>(
     Ok(fits)
 }
 
-/// Whether all of the line may be where it is.
+/// Says whether all of the line may be where it is.
 fn sorts_line<'a>(
     alloc: Global,
     scope: &Scope<'a>,

@@ -13,7 +13,7 @@ use crate::sorted::{Sorts, sorts_term};
 use psg_deflines::{LinePart, LinePlace, LineTree, TreeShape};
 use std::alloc::{AllocError, Global};
 
-/// Whether the hole place may be at the place.
+/// Says whether the hole place may be at the place.
 fn sorts_place<'a>(
     alloc: Global,
     scope: &Scope<'a>,
@@ -36,7 +36,7 @@ fn sorts_place<'a>(
     Ok(fits)
 }
 
-/// Whether the rest of a list may be at the place.
+/// Says whether the rest of a list may be at the place.
 fn sorts_end<'a>(
     alloc: Global,
     scope: &Scope<'a>,
@@ -58,7 +58,7 @@ fn sorts_end<'a>(
     }
 }
 
-/// Whether the part may be at the place.
+/// Says whether the part may be at the place.
 #[cycle(sorts_tree)]
 fn sorts_part<'a>(
     alloc: Global,
@@ -95,7 +95,7 @@ fn sorts_part<'a>(
     }
 }
 
-/// Whether the parts may be at the places, one by one.
+/// Says whether the parts may be at the places, one by one.
 #[cycle(sorts_tree)]
 fn sorts_parts<'a>(
     alloc: Global,
@@ -119,7 +119,7 @@ fn sorts_parts<'a>(
     Ok(true)
 }
 
-/// Whether each of the specimens may be at the place.
+/// Says whether each of the specimens may be at the place.
 #[cycle(sorts_tree)]
 fn sorts_trees<'a>(
     alloc: Global,

@@ -76,7 +76,7 @@ fn add_constructors<'a>(
 }
 
 impl<'a> Tables<'a> {
-    /// The tables of no lines.
+    /// Makes the tables of no lines.
     fn empty(alloc: Global) -> Tables<'a>
         ensures { AreTables [] result }
     {

@@ -23,7 +23,7 @@ struct ConRead {
     taken: usize,
 }
 
-/// The names of sorts up to a closing bracket, with a comma between two.
+/// Returns the names of sorts up to a closing bracket, with a comma between two.
 fn names_to_bracket(alloc: Global, parts: &[&[u8]]) -> Result<Option<NamesRead>, AllocError>
     ensures { IfOk result (λ o. MatchOption o (HasNoNames (texts parts.now))
         (λ r. AreNamesRead (texts parts.now) r.names.items r.taken)) }
@@ -47,7 +47,8 @@ fn names_to_bracket(alloc: Global, parts: &[&[u8]]) -> Result<Option<NamesRead>,
     Ok(None)
 }
 
-/// The constructor with which the parts begin: its name, and the sorts of its arguments in brackets where it has any.
+/// Returns the constructor with which the parts begin: its name, and the sorts of its arguments in brackets where it
+/// has any.
 fn constructor(alloc: Global, parts: &[&[u8]]) -> Result<Option<ConRead>, AllocError>
     ensures { IfOk result (λ o. MatchOption o (HasNoCon (texts parts.now))
         (λ r. IsConRead (texts parts.now) r.constructor r.taken)) }

@@ -35,7 +35,7 @@ pub enum EntryRead {
     Fault(DefCode),
 }
 
-/// A line without terms, if it was read.
+/// Returns a line without terms, if it was read.
 fn without_terms(line: Option<Line>) -> FormRead
     ensures { (ps : Parts) → MatchOption line (HasNoForm ps) (IsOnly (IsForm ps))
         → ((l : Plain) → IsForm ps l → IsShallow l) → IsFormRead ps result }
@@ -46,7 +46,7 @@ fn without_terms(line: Option<Line>) -> FormRead
     }
 }
 
-/// The declare row with these parts.
+/// Returns the declare row with these parts.
 fn declare_form(alloc: Global, keyword: &[u8], behind: &[&[u8]]) -> Result<FormRead, AllocError>
     ensures { IfOk result (λ read. IsNoPlainWord keyword.now → IsNoTermWord keyword.now
         → IsFormRead (keyword.now ∷ texts behind.now) read) }
@@ -57,7 +57,7 @@ fn declare_form(alloc: Global, keyword: &[u8], behind: &[&[u8]]) -> Result<FormR
     }
 }
 
-/// The line of terms with these parts.
+/// Returns the line of terms with these parts.
 fn term_form(alloc: Global, keyword: &[u8], behind: &[&[u8]]) -> Result<FormRead, AllocError>
     ensures { IfOk result (λ read. IsNoPlainWord keyword.now → IsFormRead (keyword.now ∷ texts behind.now) read) }
 {
@@ -76,7 +76,7 @@ fn term_form(alloc: Global, keyword: &[u8], behind: &[&[u8]]) -> Result<FormRead
     }
 }
 
-/// The line with these parts.
+/// Returns the line with these parts.
 fn form(alloc: Global, parts: &[&[u8]]) -> Result<FormRead, AllocError>
     ensures { IfOk result (IsFormRead (texts parts.now)) }
 {
@@ -104,7 +104,7 @@ fn form(alloc: Global, parts: &[&[u8]]) -> Result<FormRead, AllocError>
     Ok(term_form(alloc, keyword, behind)?)
 }
 
-/// Whether the item is no quoted word, or one that is one token.
+/// Says whether the item is no quoted word, or one that is one token.
 fn is_fixed_item(alloc: Global, item: &LineItem) -> Result<bool, AllocError>
     ensures { IfOk result (λ b. IsTrue b ↔ IsFixedItem item.now) }
 {
@@ -114,7 +114,7 @@ fn is_fixed_item(alloc: Global, item: &LineItem) -> Result<bool, AllocError>
     }
 }
 
-/// Whether each of the items is no quoted word, or one that is one token.
+/// Says whether each of the items is no quoted word, or one that is one token.
 fn are_fixed_items(alloc: Global, items: &[LineItem]) -> Result<bool, AllocError>
     ensures { IfOk result (λ b. IsTrue b ↔ AllByRecursion IsFixedItem items.now) }
 {
@@ -126,7 +126,7 @@ fn are_fixed_items(alloc: Global, items: &[LineItem]) -> Result<bool, AllocError
     Ok(true)
 }
 
-/// Whether each quoted word of the line is one token.
+/// Says whether each quoted word of the line is one token.
 fn has_fixed_words(alloc: Global, line: &Line) -> Result<bool, AllocError>
     ensures { IfOk result (λ b. IsTrue b ↔ HasFixedWords line.now) }
 {
@@ -137,14 +137,14 @@ fn has_fixed_words(alloc: Global, line: &Line) -> Result<bool, AllocError>
     }
 }
 
-/// Whether a row may follow the line where none may follow those before.
+/// Says whether a row may follow the line where none may follow those before.
 fn is_operator(line: &Line) -> bool
     ensures { result ≡ is_operator line.now }
 {
     matches!(line, Line::Operator { .. })
 }
 
-/// Whether a case may follow the line, where it is known for the lines before.
+/// Says whether a case may follow the line, where it is known for the lines before.
 fn cases_behind(so_far: bool, line: &Line) -> bool
     ensures { result ≡ cases_behind so_far line.now }
 {
@@ -154,8 +154,8 @@ fn cases_behind(so_far: bool, line: &Line) -> bool
     }
 }
 
-/// Whether the line with these parts may follow the lines before it: a row follows an operator, and a case a hole row
-/// that has no specimen.
+/// Says whether the line with these parts may follow the lines before it: a row follows an operator, and a case a hole
+/// row that has no specimen.
 fn has_place(parts: &[&[u8]], rows: bool, cases: bool) -> bool
     ensures { (above : List Plain) → takes_rows above ≡ rows → takes_cases false above ≡ cases
         → MatchBool result ((line : Plain) → IsForm (texts parts.now) line → HasPlace above line)
@@ -198,7 +198,7 @@ fn kept(line: Line, good: bool, code: DefCode) -> EntryRead
     }
 }
 
-/// The line, if it is of the version of the file and its words are tokens.
+/// Returns the line, if it is of the version of the file and its words are tokens.
 fn found(line: Line, right: bool, fixed: bool) -> EntryRead
     ensures { result ≡ cond right (cond fixed (EntryRead.Found (Some line)) (EntryRead.Fault DefCode.Token))
         (EntryRead.Fault DefCode.Form) }
@@ -208,14 +208,14 @@ fn found(line: Line, right: bool, fixed: bool) -> EntryRead
     kept(line, good, code)
 }
 
-/// Whether the word names a space.
+/// Says whether the word names a space.
 fn is_tagged(word: &[u8]) -> bool
     ensures { result ≡ list_any (λ c. c == 64) word.now }
 {
     word.iter().any(|c| *c == b'@')
 }
 
-/// Whether a line that begins with this word and is nested too deep is of the version.
+/// Says whether a line that begins with this word and is nested too deep is of the version.
 fn deep_is_of(version: u32, word: &[u8]) -> bool
     ensures { (rest : Parts) (line : Plain) → IsForm (word.now ∷ rest) line → (IsShallow line → ⊥)
         → result ≡ is_of version line }
@@ -231,7 +231,7 @@ fn deep_is_of(version: u32, word: &[u8]) -> bool
     }
 }
 
-/// What is wrong with a line that is nested too deep.
+/// Returns what is wrong with a line that is nested too deep.
 fn deep(version: u32, parts: &[&[u8]]) -> DefCode
     ensures { (line : Plain) → IsForm (texts parts.now) line → (IsShallow line → ⊥)
         → result ≡ cond (is_of version line) DefCode.Nested DefCode.Form }
@@ -246,8 +246,8 @@ fn deep(version: u32, parts: &[&[u8]]) -> DefCode
     }
 }
 
-/// The line that is read as one from the parts, or what is wrong with it: its version, one of its words, or how it is
-/// nested.
+/// Returns the line that is read as one from the parts, or what is wrong with it: its version, one of its words, or how
+/// it is nested.
 fn checked(
     alloc: Global,
     version: u32,
@@ -270,7 +270,7 @@ fn checked(
     }
 }
 
-/// Whether the line is empty or a comment.
+/// Says whether the line is empty or a comment.
 fn is_skipped(text: &str) -> bool
     ensures { IsTrue result ↔ IsSkipped text.now }
 {
@@ -306,7 +306,7 @@ fn entry(
     Ok(checked(alloc, version, parts, read)?)
 }
 
-/// Whether a row may follow the entry, where it is known for the entries before.
+/// Says whether a row may follow the entry, where it is known for the entries before.
 fn rows_after(rows: bool, entry: &Option<Line>) -> bool
     ensures { result ≡ rows_after rows entry.now }
 {
@@ -316,7 +316,7 @@ fn rows_after(rows: bool, entry: &Option<Line>) -> bool
     }
 }
 
-/// Whether a case may follow it.
+/// Says whether a case may follow it.
 fn cases_after(cases: bool, entry: &Option<Line>) -> bool
     ensures { result ≡ cases_after cases entry.now }
 {

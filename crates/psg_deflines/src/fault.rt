@@ -78,7 +78,7 @@ impl<T: Drop> From<AllocFailed<T>> for ReadFault {
     }
 }
 
-/// The number of a code, from 1.
+/// Returns the number of a code, from 1.
 fn code_number(code: DefCode) -> u8
     ensures { result ≡ code_number code }
 {

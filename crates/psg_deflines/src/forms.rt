@@ -72,7 +72,7 @@ pub fn line_space(alloc: Global, parts: &[&[u8]]) -> Result<Option<Line>, AllocE
     Ok(Some(Line::Space { name, sort }))
 }
 
-/// Whether nothing is left, or the word alone. There is no answer where something else is left.
+/// Says whether the word alone is left, or nothing. There is no answer if something else is left.
 fn is_marked(parts: &[&[u8]], word: &str) -> Option<bool>
     ensures { MatchOption result (IsNeither (texts parts.now) word.now) (λ b. texts parts.now ≡ word_if b word.now) }
 {
@@ -111,7 +111,7 @@ pub fn line_phylum(alloc: Global, parts: &[&[u8]]) -> Result<Option<Line>, Alloc
     }))
 }
 
-/// Which of two words the part is.
+/// Says which of two words the part is.
 fn which(part: &[u8], yes: &str, no: &str) -> Option<bool>
     ensures { MatchOption result ((b : Bool) → part.now ≡ cond b yes.now no.now → ⊥)
         (λ b. part.now ≡ cond b yes.now no.now) }

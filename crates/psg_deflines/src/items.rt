@@ -18,7 +18,7 @@ use crate::spaces::space_behind;
 use psg_grammar::Level;
 use std::alloc::{AllocError, Global};
 
-/// The item that has a word of its own.
+/// Returns the item that has a word of its own.
 fn word_item(part: &[u8]) -> Option<LineItem>
     ensures { MatchOption result (HasNoWordItem part.now) (λ x. IsWordItem x × (item_part x ≡ part.now)) }
 {
@@ -41,7 +41,7 @@ fn word_item(part: &[u8]) -> Option<LineItem>
     }
 }
 
-/// The name position that declares, if the part is one.
+/// Returns the name position that declares, if the part is one.
 fn declares_item(alloc: Global, part: &[u8]) -> Result<Option<LineItem>, AllocError>
     ensures { IfOk result (λ o. MatchOption o ((n : Name) → IsSpaceName n → part.now ≡ codes "declares" ++ tag n → ⊥)
         (IsOnly (IsItemPart part.now))) }
@@ -52,7 +52,7 @@ fn declares_item(alloc: Global, part: &[u8]) -> Result<Option<LineItem>, AllocEr
     }
 }
 
-/// The name position that the part is.
+/// Returns the name position that the part is.
 fn name_item(alloc: Global, part: &[u8]) -> Result<Option<LineItem>, AllocError>
     ensures { IfOk result (λ o. MatchOption o (HasNoNameItem part.now) (IsOnly (IsItemPart part.now))) }
 {
@@ -62,7 +62,7 @@ fn name_item(alloc: Global, part: &[u8]) -> Result<Option<LineItem>, AllocError>
     }
 }
 
-/// The quoted word that the part is.
+/// Returns the quoted word that the part is.
 fn quoted_item(alloc: Global, part: &[u8]) -> Result<Option<LineItem>, AllocError>
     ensures { IfOk result (λ o. MatchOption o (HasNoQuote part.now) (IsOnly (IsItemPart part.now))) }
 {
@@ -72,7 +72,7 @@ fn quoted_item(alloc: Global, part: &[u8]) -> Result<Option<LineItem>, AllocErro
     }
 }
 
-/// The slot or the quoted word that the part is.
+/// Returns the slot or the quoted word that the part is.
 fn slot_item(alloc: Global, part: &[u8]) -> Result<Option<LineItem>, AllocError>
     ensures { IfOk result (λ o. MatchOption o ((IsKindName part.now → ⊥) × HasNoQuote part.now)
         (IsOnly (IsItemPart part.now))) }
@@ -83,7 +83,7 @@ fn slot_item(alloc: Global, part: &[u8]) -> Result<Option<LineItem>, AllocError>
     }
 }
 
-/// The item that the part is, if it is none with a word of its own.
+/// Returns the item that the part is, if it is none with a word of its own.
 fn other_item(alloc: Global, part: &[u8]) -> Result<Option<LineItem>, AllocError>
     ensures { IfOk result (λ o. MatchOption o (HasNoNameItem part.now × (IsKindName part.now → ⊥) × HasNoQuote part.now)
         (IsOnly (IsItemPart part.now))) }
@@ -94,7 +94,7 @@ fn other_item(alloc: Global, part: &[u8]) -> Result<Option<LineItem>, AllocError
     }
 }
 
-/// An item of an operator.
+/// Returns an item of an operator.
 fn line_item(alloc: Global, part: &[u8]) -> Result<Option<LineItem>, AllocError>
     ensures { IfOk result (λ o. MatchOption o (HasNoItem part.now) (IsOnly (IsItemPart part.now))) }
 {
@@ -130,7 +130,7 @@ pub struct HeaderRead {
     pub taken: usize,
 }
 
-/// The digit from 1 to 9 that is the part.
+/// Returns the digit from 1 to 9 that is the part.
 fn binding(part: &[u8]) -> Option<u8>
     ensures { MatchOption result ((n : ℕ) → IsBinding n → part.now ≡ (48 + n) ∷ [] → ⊥)
         (λ n. IsBinding n × (part.now ≡ (48 + n) ∷ [])) }
@@ -141,7 +141,7 @@ fn binding(part: &[u8]) -> Option<u8>
     }
 }
 
-/// The level that two parts are.
+/// Returns the level that two parts are.
 fn level(word: &[u8], digit: &[u8]) -> Option<Level>
     ensures { MatchOption result (HasNoLevel word.now digit.now)
         (λ l. IsLevel l × (level_parts l ≡ word.now ∷ digit.now ∷ [])) }
@@ -162,7 +162,7 @@ fn level(word: &[u8], digit: &[u8]) -> Option<Level>
     }
 }
 
-/// The level with which the parts begin, and how many parts it takes with the sign `=` after it.
+/// Returns the level with which the parts begin, and how many parts it takes with the sign `=` after it.
 fn level_and_equals(parts: &[&[u8]]) -> Option<(Level, usize)>
     ensures { MatchOption result (HasNoLevelRead (texts parts.now)) (λ r. IsLevelRead (texts parts.now) r.0 r.1) }
 {

@@ -17,28 +17,28 @@ pub fn is(part: &[u8], word: &str) -> bool
     part == word.as_bytes()
 }
 
-/// Whether a name goes on with the character.
+/// Says whether a name goes on with the character.
 fn goes_on(c: u8) -> bool
     ensures { result ≡ goes_on_name c }
 {
     c.is_ascii_alphanumeric() || c == b'_'
 }
 
-/// Whether each character is a letter, a digit or `_`.
+/// Says whether each character is a letter, a digit or `_`.
 fn all_go_on(text: &[u8]) -> bool
     ensures { result ≡ list_all goes_on_name text.now }
 {
     text.iter().all(|c| goes_on(*c))
 }
 
-/// Whether each character is a letter or a digit.
+/// Says whether each character is a letter or a digit.
 fn all_plain(text: &[u8]) -> bool
     ensures { result ≡ list_all is_plain text.now }
 {
     text.iter().all(|c| c.is_ascii_alphanumeric())
 }
 
-/// Whether each character is a lower-case letter or a digit.
+/// Says whether each character is a lower-case letter or a digit.
 fn all_of_specimen(text: &[u8]) -> bool
     ensures { result ≡ list_all (λ c. is_lower c || is_digit c) text.now }
 {
@@ -46,7 +46,7 @@ fn all_of_specimen(text: &[u8]) -> bool
         .all(|c| c.is_ascii_lowercase() || c.is_ascii_digit())
 }
 
-/// Whether each character is a digit.
+/// Says whether each character is a digit.
 fn all_digits(text: &[u8]) -> bool
     ensures { result ≡ list_all is_digit text.now }
 {

@@ -9,28 +9,28 @@ ghost use Rattle.psg_deflines.specs.Only.{IsOnly};
 use crate::quotes::{closing, quoted_text};
 use std::alloc::{AllocError, Global};
 
-/// Whether the character is a letter, a digit, `_` or `@`.
+/// Says whether the character is a letter, a digit, `_` or `@`.
 fn goes_on(c: u8) -> bool
     ensures { result ≡ goes_on_word c }
 {
     c.is_ascii_alphanumeric() || c == b'_' || c == b'@'
 }
 
-/// Whether the character is a part by itself.
+/// Says whether the character is a part by itself.
 fn is_mark(c: u8) -> bool
     ensures { result ≡ is_mark c }
 {
     matches!(c, b':' | b'=' | b'(' | b')' | b',' | b'[' | b']' | b'|')
 }
 
-/// Whether a name follows the character.
+/// Says whether a name follows the character.
 fn is_sigil(c: u8) -> bool
     ensures { result ≡ is_sigil c }
 {
     c == b'?' || c == b'$'
 }
 
-/// Whether a name after the sigil goes on with the character.
+/// Says whether a name after the sigil goes on with the character.
 fn goes_behind(sigil: u8, c: u8) -> bool
     ensures { result ≡ goes_behind sigil c }
 {
@@ -41,28 +41,29 @@ fn goes_behind(sigil: u8, c: u8) -> bool
     }
 }
 
-/// The length of the longest run of letters, digits, `_` and `@` at the beginning of the text.
+/// Returns the length of the longest run of letters, digits, `_` and `@` at the beginning of the text.
 fn word_len(text: &[u8]) -> usize
     ensures { result ≡ prefix_len goes_on_word text.now }
 {
     text.iter().take_while(|c| goes_on(**c)).count()
 }
 
-/// The length of the longest run of spaces.
+/// Returns the length of the longest run of spaces.
 fn spaces_len(text: &[u8]) -> usize
     ensures { result ≡ prefix_len (λ c. c == 32) text.now }
 {
     text.iter().take_while(|c| **c == b' ').count()
 }
 
-/// The length of the longest run of characters of a name after the sigil.
+/// Returns the length of the longest run of characters of a name after the sigil.
 fn name_len(sigil: u8, text: &[u8]) -> usize
     ensures { result ≡ prefix_len (goes_behind sigil) text.now }
 {
     text.iter().take_while(|c| goes_behind(sigil, **c)).count()
 }
 
-/// The length of the sigil and its name with which the text begins, if there is a name and nothing goes on with it.
+/// Returns the length of the sigil and its name with which the text begins, if there is a name and nothing goes on with
+/// it.
 fn sigil_len(text: &[u8]) -> Option<usize>
     requires long { 0 < length text.now }
     requires sigil { is_sigil (slice_index text.now 0) ≡ true }
@@ -79,7 +80,7 @@ fn sigil_len(text: &[u8]) -> Option<usize>
     Some(len + 1)
 }
 
-/// The length of the quoted text with which the text begins, if there is one.
+/// Returns the length of the quoted text with which the text begins, if there is one.
 fn quoted_len(alloc: Global, text: &[u8]) -> Result<Option<usize>, AllocError>
     requires long { 0 < length text.now }
     requires quote { slice_index text.now 0 ≡ 34 }
@@ -95,7 +96,7 @@ fn quoted_len(alloc: Global, text: &[u8]) -> Result<Option<usize>, AllocError>
     Ok(Some(inside + 2))
 }
 
-/// The length of the first part of the text, if it begins with one.
+/// Returns the length of the first part of the text, if it begins with one.
 fn first_part(alloc: Global, text: &[u8]) -> Result<Option<usize>, AllocError>
     requires { 0 < length text.now }
     ensures { IfOk result (λ o. MatchOption o (HasNoFirst text.now) (IsFirst text.now)) }
@@ -114,8 +115,8 @@ fn first_part(alloc: Global, text: &[u8]) -> Result<Option<usize>, AllocError>
     Ok(if len > 0 { Some(len) } else { None })
 }
 
-/// The first part of the text, and what is after the spaces that follow it. There is none where the text begins with no
-/// part, or ends in spaces.
+/// Returns the first part of the text, and what is after the spaces that follow it. There is none where the text begins
+/// with no part, or ends in spaces.
 fn split_part(alloc: Global, text: &[u8]) -> Result<Option<(&[u8], &[u8])>, AllocError>
     requires { 0 < length text.now }
     ensures { IfOk result (λ o. MatchOption o (HasNoParts text.now) (λ r. IsSplit text.now r.0.now r.1.now)) }

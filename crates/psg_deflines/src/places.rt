@@ -60,7 +60,7 @@ pub fn rest_behind<'a>(parts: &'a [&'a [u8]], taken: usize) -> &'a [&'a [u8]]
     rest
 }
 
-/// The name of the kind of a hole place, and the parts after its comma.
+/// Returns the name of the kind of a hole place, and the parts after its comma.
 fn place_head<'a>(parts: &'a [&'a [u8]]) -> Option<(&'a [u8], &'a [&'a [u8]])>
     ensures { MatchOption result (HasNoHead (texts parts.now))
         (λ r. texts parts.now ≡ codes "hole" ∷ codes "(" ∷ r.0.now ∷ codes "," ∷ texts r.1.now) }
@@ -72,7 +72,7 @@ fn place_head<'a>(parts: &'a [&'a [u8]]) -> Option<(&'a [u8], &'a [&'a [u8]])>
     Some((*kind, term))
 }
 
-/// The place of the kind with the values of the term, if the term is kept.
+/// Returns the place of the kind with the values of the term, if the term is kept.
 fn kept_place(kind: Txt, term: Option<LineTerm>) -> Option<LinePlace>
     ensures { result ≡ option_map (place_of kind) term }
 {

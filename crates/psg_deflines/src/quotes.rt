@@ -22,7 +22,7 @@ pub fn closing(text: &[u8]) -> Option<usize>
     None
 }
 
-/// The contents of the only token, if it is a quoted text and takes all the bytes, `len` of them.
+/// Returns the contents of the only token, if it is a quoted text and takes all the bytes, `len` of them.
 fn text_alone(tokens: &[Spanned], len: usize) -> Option<&Txt>
     ensures { MatchOption result (HasNoTextAlone tokens.now len) (λ t. IsTextAlone tokens.now len t.now) }
 {
@@ -35,7 +35,7 @@ fn text_alone(tokens: &[Spanned], len: usize) -> Option<&Txt>
     }
 }
 
-/// Nothing, unless memory ran out.
+/// Returns nothing, unless memory ran out.
 fn no_text(fault: LexFault) -> Result<(), AllocError>
     ensures { OnOk result (fault ≢ LexFault.Memory) }
 {

@@ -16,14 +16,14 @@ use crate::names::is;
 use crate::parts::parts;
 use std::alloc::{AllocError, Global};
 
-/// The lines of a text, each without its line feed and one carriage return in front of it.
+/// Returns the lines of a text, each without its line feed and one carriage return in front of it.
 fn text_lines<'a>(alloc: Global, text: &'a str) -> Result<Vec<&'a str>, AllocError>
     ensures { IfOk result (λ v. map (λ t. t.now) v.items ≡ lines text.now) }
 {
     text.lines().collect(alloc)
 }
 
-/// The version with the number, if there is one.
+/// Returns the version with the number, if there is one.
 fn version_of(part: &[u8]) -> Option<u32>
     ensures { MatchOption result ((v : ℕ) → IsVersion v → (48 + v) ∷ [] ≡ part.now → ⊥)
         (λ v. IsVersion v × ((48 + v) ∷ [] ≡ part.now)) }
@@ -37,7 +37,7 @@ fn version_of(part: &[u8]) -> Option<u32>
     }
 }
 
-/// The version of which the parts are the first line's.
+/// Returns the version of which the parts are the first line's.
 fn head_of(parts: &[&[u8]]) -> Option<u32>
     ensures { MatchOption result ((v : ℕ) → IsVersion v → head_parts v ≡ texts parts.now → ⊥)
         (λ v. IsVersion v × (head_parts v ≡ texts parts.now)) }
@@ -51,7 +51,7 @@ fn head_of(parts: &[&[u8]]) -> Option<u32>
     version_of(parts[1])
 }
 
-/// The version of which the text is the first line.
+/// Returns the version of which the text is the first line.
 fn version(alloc: Global, text: &str) -> Result<Option<u32>, AllocError>
     ensures { IfOk result (λ o. MatchOption o ((v : ℕ) → IsVersion v → IsWritten (head_parts v) text.now → ⊥)
         (λ v. IsVersion v × IsWritten (head_parts v) text.now)) }
@@ -62,7 +62,7 @@ fn version(alloc: Global, text: &str) -> Result<Option<u32>, AllocError>
     }
 }
 
-/// How many line feeds there are.
+/// Returns how many line feeds there are.
 fn line_feeds(bytes: &[u8]) -> usize
     ensures { result ≡ line_feeds bytes.now }
 {
@@ -75,7 +75,7 @@ fn line_feeds(bytes: &[u8]) -> usize
     feeds
 }
 
-/// The fault of bytes of which the longest front that is UTF-8 has `valid` bytes.
+/// Returns the fault of bytes of which the longest front that is UTF-8 has `valid` bytes.
 fn not_text(bytes: &[u8], valid: usize) -> DefFault
     requires long { valid < length bytes.now }
     requires few { length bytes.now < 2 ^ 32 }
@@ -90,7 +90,7 @@ fn not_text(bytes: &[u8], valid: usize) -> DefFault
     }
 }
 
-/// The fault of a file that does not begin with the line of a version.
+/// Returns the fault of a file that does not begin with the line of a version.
 fn no_version() -> ReadFault
     ensures { result ≡ ReadFault.Def (record { line = 1; code = DefCode.Version }) }
 {

@@ -10,7 +10,7 @@ use crate::names::{is, own_name};
 use psg_terms::Txt;
 use std::alloc::{AllocError, Global};
 
-/// The name of a space after its mark; nothing is the empty name.
+/// Returns the name of a space after its mark; nothing is the empty name.
 fn tagged(alloc: Global, behind: &[u8]) -> Result<Option<Txt>, AllocError>
     ensures { IfOk result (λ o. MatchOption o ((n : Name) → IsSpaceName n → behind.now ≡ tag n → ⊥)
         (λ n. IsSpaceName n × (behind.now ≡ tag n))) }
@@ -46,14 +46,14 @@ pub fn space_behind(alloc: Global, part: &[u8], word: &str) -> Result<Option<Txt
     Ok(Some(name))
 }
 
-/// Whether the name is not empty.
+/// Says whether the name is not empty.
 fn is_named(name: &Txt) -> bool
     ensures { result ≡ is_named name.now }
 {
     !name.as_str().is_empty()
 }
 
-/// Whether a space is named as the version wants it.
+/// Says whether a space is named as the version wants it.
 fn names_rightly(version: u32, space: &Txt) -> bool
     ensures { result ≡ names_rightly version space.now }
 {
@@ -64,7 +64,7 @@ fn names_rightly(version: u32, space: &Txt) -> bool
     }
 }
 
-/// Whether the item names its space.
+/// Says whether the item names its space.
 fn names_space(item: &LineItem) -> bool
     ensures { result ≡ names_space item.now }
 {
@@ -75,7 +75,7 @@ fn names_space(item: &LineItem) -> bool
     }
 }
 
-/// Whether one of the items names its space.
+/// Says whether one of the items names its space.
 fn name_spaces(items: &[LineItem]) -> bool
     ensures { result ≡ list_any names_space items.now }
 {

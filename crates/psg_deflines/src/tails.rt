@@ -53,7 +53,7 @@ pub struct Tail {
     pub behind: Behind,
 }
 
-/// The terms with one more, if all of them are kept.
+/// Returns the terms with one more, if all of them are kept.
 fn with_term(
     kept: Option<Seq<LineTerm>>,
     term: Option<LineTerm>,
@@ -95,7 +95,7 @@ fn terms(alloc: Global, parts: &[&[u8]], most: usize) -> Result<Option<TermsRead
     }))
 }
 
-/// Whether the parts begin with a colon.
+/// Says whether the parts begin with a colon.
 fn is_colon(parts: &[&[u8]]) -> bool
     ensures { MatchBool result (texts parts.now ≡ codes ":" ∷ drop 1 (texts parts.now)) (IsNotColon (texts parts.now)) }
 {
@@ -105,7 +105,7 @@ fn is_colon(parts: &[&[u8]]) -> bool
     is(first, ":")
 }
 
-/// The terms after a colon, at most this number or up to the end, or none where there is no colon.
+/// Returns the terms after a colon, at most this number or up to the end, or none where there is no colon.
 fn columns(alloc: Global, parts: &[&[u8]], most: usize) -> Result<Option<TermsRead>, AllocError>
     ensures { IfOk result (λ o. MatchOption o (HaveNoColumns most (texts parts.now))
         (AreColumnsFound most (texts parts.now))) }
@@ -136,7 +136,7 @@ fn columns(alloc: Global, parts: &[&[u8]], most: usize) -> Result<Option<TermsRe
     }))
 }
 
-/// The specimen at the end of a line, if it is kept.
+/// Returns the specimen at the end of a line, if it is kept.
 fn specimen_behind(tree: Option<LineTree>) -> Behind
     ensures { (w : WrittenTree) → IsTreeKept tree w → IsBehind result (Some w) }
 {
@@ -146,7 +146,7 @@ fn specimen_behind(tree: Option<LineTree>) -> Behind
     }
 }
 
-/// The specimen after `by` that ends the line, or nothing where nothing is left.
+/// Returns the specimen after `by` that ends the line, or nothing where nothing is left.
 fn line_end(alloc: Global, parts: &[&[u8]]) -> Result<Option<Behind>, AllocError>
     ensures { IfOk result (λ o. MatchOption o (HasNothingBehind (texts parts.now)) (IsBehindFound (texts parts.now))) }
 {

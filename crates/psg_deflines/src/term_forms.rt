@@ -29,14 +29,14 @@ pub enum FormRead {
     Read(Line),
 }
 
-/// Whether there is no specimen at the end.
+/// Says whether there is no specimen at the end.
 fn is_nothing(behind: &Behind) -> bool
     ensures { result ≡ is_nothing behind.now }
 {
     matches!(behind, Behind::Nothing)
 }
 
-/// The specimen at the end, if there is one. There is no answer where it is nested too deep.
+/// Returns the specimen at the end, if there is one. There is no answer if it is nested too deep.
 fn specimen(behind: Behind) -> Option<Option<LineTree>>
     ensures { result ≡ specimen_of behind }
 {
@@ -47,7 +47,7 @@ fn specimen(behind: Behind) -> Option<Option<LineTree>>
     }
 }
 
-/// The specimen at the end, if there is one that is kept.
+/// Returns the specimen at the end, if there is one that is kept.
 fn tree(behind: Behind) -> Option<LineTree>
     ensures { result ≡ tree_behind behind }
 {
@@ -57,7 +57,7 @@ fn tree(behind: Behind) -> Option<LineTree>
     }
 }
 
-/// The last of some terms, if they are kept.
+/// Returns the last of some terms, if they are kept.
 fn one_of(terms: Option<Seq<LineTerm>>) -> Option<LineTerm>
     ensures one { (t : WrittenTerm) → terms ≡ Some (t ∷ []) → result ≡ Some t }
     ensures none { terms ≡ None → result ≡ None }
@@ -66,7 +66,7 @@ fn one_of(terms: Option<Seq<LineTerm>>) -> Option<LineTerm>
     terms.pop()
 }
 
-/// The last two of some terms, if they are kept.
+/// Returns the last two of some terms, if they are kept.
 fn two_of(terms: Option<Seq<LineTerm>>) -> Option<(LineTerm, LineTerm)>
     ensures two { (t u : WrittenTerm) → terms ≡ Some (t ∷ u ∷ []) → result ≡ Some (t, u) }
     ensures none { terms ≡ None → result ≡ None }
@@ -77,7 +77,7 @@ fn two_of(terms: Option<Seq<LineTerm>>) -> Option<(LineTerm, LineTerm)>
     Some((first, second))
 }
 
-/// Two values that are both there.
+/// Returns two values, if both are there.
 fn both<T: Drop, U: Drop>(a: Option<T>, b: Option<U>) -> Option<(T, U)>
     ensures { MatchOption result ((a ≡ None) ⊎ (b ≡ None)) (λ r. (a ≡ Some r.0) × (b ≡ Some r.1)) }
 {
@@ -86,14 +86,14 @@ fn both<T: Drop, U: Drop>(a: Option<T>, b: Option<U>) -> Option<(T, U)>
     Some((a, b))
 }
 
-/// The form, if the condition holds, and else none.
+/// Returns the form if the condition holds, and else none.
 fn only_if(holds: bool, read: FormRead) -> FormRead
     ensures { result ≡ cond holds read FormRead.Nothing }
 {
     if holds { read } else { FormRead::Nothing }
 }
 
-/// A name of a list or phylum, and what follows it.
+/// Returns a name of a list or phylum, and what follows it.
 fn named_tail(
     alloc: Global,
     parts: &[&[u8]],
@@ -114,7 +114,7 @@ fn named_tail(
     Ok(Some((name, tail)))
 }
 
-/// The row that is such a tail.
+/// Returns the row that is such a tail.
 fn row_of(tail: Tail) -> FormRead
     ensures { (most : ℕ) (ps : Parts) → IsTailFound most ps tail → length ps ≤ most
         → IsFormRead (codes "row" ∷ ps) result }
@@ -134,7 +134,7 @@ fn row_of(tail: Tail) -> FormRead
     only_if(ended, read)
 }
 
-/// The nil row that is such a tail.
+/// Returns the nil row that is such a tail.
 fn nil_of(list: Txt, tail: Tail) -> FormRead
     ensures { (ps : Parts) → IsKindName list → IsTailFound 0 ps tail → IsFormRead (codes "nil" ∷ list ∷ ps) result }
 {
@@ -154,7 +154,7 @@ fn nil_of(list: Txt, tail: Tail) -> FormRead
     only_if(ended, read)
 }
 
-/// The cell row that is such a tail.
+/// Returns the cell row that is such a tail.
 fn cell_of(list: Txt, tail: Tail) -> FormRead
     ensures { (ps : Parts) → IsKindName list → IsTailFound 2 ps tail → IsFormRead (codes "cell" ∷ list ∷ ps) result }
 {
@@ -181,7 +181,7 @@ fn cell_of(list: Txt, tail: Tail) -> FormRead
     only_if((count == 2) & ended, read)
 }
 
-/// The hole row that is such a tail.
+/// Returns the hole row that is such a tail.
 fn hole_of(kind: Txt, tail: Tail) -> FormRead
     ensures { (ps : Parts) → IsKindName kind → IsTailFound 0 ps tail → IsFormRead (codes "hole" ∷ kind ∷ ps) result }
 {
@@ -202,7 +202,7 @@ fn hole_of(kind: Txt, tail: Tail) -> FormRead
     }
 }
 
-/// The case that is such a tail.
+/// Returns the case that is such a tail.
 fn case_of(tail: Tail) -> FormRead
     ensures { (ps : Parts) → IsTailFound 0 ps tail → IsFormRead (codes "case" ∷ ps) result }
 {
@@ -221,7 +221,7 @@ fn case_of(tail: Tail) -> FormRead
     only_if(!ended, read)
 }
 
-/// The declare row of the space that is such a tail.
+/// Returns the declare row of the space that is such a tail.
 fn declare_of(space: Txt, list: Txt, tail: Tail) -> FormRead
     ensures { (ps : Parts) → IsSpaceName space → IsKindName list → IsTailFound 1 ps tail
         → IsFormRead ((codes "declare" ++ tag space) ∷ list ∷ ps) result }

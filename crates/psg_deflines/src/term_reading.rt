@@ -51,7 +51,7 @@ pub struct TermRead {
     pub taken: usize,
 }
 
-/// The name of a variable without its mark, if the part is one.
+/// Returns the name of a variable without its mark, if the part is one.
 fn variable_name(part: &[u8]) -> Option<&[u8]>
     ensures { MatchOption result ((n : List ℕ) → part.now ≡ 63 ∷ n → is_variable_name n ≡ false)
         (λ n. (part.now ≡ 63 ∷ n.now) × (is_variable_name n.now ≡ true)) }
@@ -109,7 +109,7 @@ fn begin(
     Ok(Some((Walk::Has(brackets, LineTerm { shape }), 1)))
 }
 
-/// The frame with one more argument, which is not kept where a term is nested too deep.
+/// Returns the frame with one more argument, which is not kept where a term is nested too deep.
 fn with_argument(frame: Frame, term: LineTerm, deep: bool) -> Result<Frame, AllocError>
     ensures { IfOk result (λ f. deep ≡ false → frame_term f ≡ apply (frame_term frame) term) }
 {
@@ -154,7 +154,7 @@ fn go_on(
     Ok(None)
 }
 
-/// Whether the walk is at its end.
+/// Says whether the walk is at its end.
 fn is_done(walk: &Walk) -> bool
     ensures { IsTrue result ↔ IsDone walk.now }
 {
@@ -164,7 +164,7 @@ fn is_done(walk: &Walk) -> bool
     }
 }
 
-/// The term of a walk that is at its end, if it is kept.
+/// Returns the term of a walk that is at its end, if it is kept.
 fn finished(walk: Walk) -> Option<LineTerm>
     ensures { IsFinished walk result }
 {
@@ -174,7 +174,7 @@ fn finished(walk: Walk) -> Option<LineTerm>
     }
 }
 
-/// A step of the walk, if one is possible.
+/// Makes a step of the walk, if one is possible.
 fn advance(alloc: Global, walk: Walk, parts: &[&[u8]]) -> Result<Option<(Walk, usize)>, AllocError>
     requires { IsDone walk → ⊥ }
     ensures { IfOk result (λ o. (s : Stage) → IsWalk walk s → IsAdvanced s (is_deep walk) (texts parts.now) o) }

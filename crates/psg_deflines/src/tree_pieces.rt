@@ -68,7 +68,7 @@ pub struct FinishRead {
     pub taken: usize,
 }
 
-/// The value of the digits, if it is below 2^128.
+/// Returns the value of the digits, if it is below 2^128.
 fn value(digits: &[u8]) -> Option<u128>
     requires { list_all is_digit digits.now ≡ true }
     ensures { SomeIff result (value_of digits.now < 2 ^ 128) (value_of digits.now) }
@@ -83,14 +83,14 @@ fn value(digits: &[u8]) -> Option<u128>
     Some(value)
 }
 
-/// Whether the part is a number below 2^128.
+/// Says whether the part is a number below 2^128.
 fn is_number(part: &[u8]) -> bool
     ensures { IsTrue result ↔ ((is_digits part.now ≡ true) × (value_of part.now < 2 ^ 128)) }
 {
     is_digits(part) && value(part).is_some()
 }
 
-/// The name of a specimen's entity without its mark, if the part is one.
+/// Returns the name of a specimen's entity without its mark, if the part is one.
 fn specimen_name(part: &[u8]) -> Option<&[u8]>
     ensures { MatchOption result ((n : List ℕ) → part.now ≡ 36 ∷ n → is_specimen_name n ≡ true → ⊥)
         (λ n. (part.now ≡ 36 ∷ n.now) × (is_specimen_name n.now ≡ true)) }
@@ -103,7 +103,7 @@ fn specimen_name(part: &[u8]) -> Option<&[u8]>
     }
 }
 
-/// The name, number or text that the part is, if it is one.
+/// Returns the name, number or text that the part is, if it is one.
 fn literal(alloc: Global, part: &[u8]) -> Result<Option<LinePart>, AllocError>
     ensures { IfOk result (λ o. MatchOption o (HasNoLiteral part.now)
         (λ l. IsLiteral l × (part.now ≡ literal_part l))) }
@@ -120,7 +120,7 @@ fn literal(alloc: Global, part: &[u8]) -> Result<Option<LinePart>, AllocError>
     Ok(Some(LinePart::Text(text)))
 }
 
-/// Whether the first part is a name of a sort, phylum or list.
+/// Says whether the first part is a name of a sort, phylum or list.
 fn starts_with_kind(parts: &[&[u8]]) -> bool
     ensures { result ≡ is_name_from is_upper (first_of (texts parts.now)) }
 {
@@ -130,7 +130,7 @@ fn starts_with_kind(parts: &[&[u8]]) -> bool
     }
 }
 
-/// An operator without parts.
+/// Returns an operator without parts.
 fn leaf(alloc: Global, name: &[u8]) -> Result<LineTree, AllocError>
     requires { IsOwnName name.now }
     ensures { IfOk result (λ t. t ≡ operator name.now) }
@@ -139,7 +139,7 @@ fn leaf(alloc: Global, name: &[u8]) -> Result<LineTree, AllocError>
     Ok(operator_tree(name, Vec::new(alloc)))
 }
 
-/// An operator whose bracket is opened.
+/// Returns an operator whose bracket is opened.
 fn open_operator(alloc: Global, name: &[u8]) -> Result<OpenTree, AllocError>
     requires { IsOwnName name.now }
     ensures { IfOk result (λ f. frame_of f ≡ in_operator (operator name.now)) }
@@ -192,7 +192,7 @@ pub fn list_tree(elements: Vec<LineTree>, end: ListEnd) -> Option<LineTree>
     Some(LineTree { shape })
 }
 
-/// What begins after the bracket of a list.
+/// Returns what begins after the bracket of a list.
 fn begin_list(alloc: Global, parts: &[&[u8]]) -> Result<Option<BeginRead>, AllocError>
     ensures { IfOk result (λ o. MatchOption o (HasNoBegin (codes "[" ∷ texts parts.now))
         (IsBeginRead (codes "[" ∷ texts parts.now))) }
@@ -213,7 +213,7 @@ fn begin_list(alloc: Global, parts: &[&[u8]]) -> Result<Option<BeginRead>, Alloc
     }))
 }
 
-/// The hole place as a specimen, if it is kept.
+/// Returns the hole place as a specimen, if it is kept.
 fn place_tree(kept: Option<LinePlace>) -> Option<LineTree>
     ensures { result ≡ option_map (λ p. place p.kind p.term) kept }
 {
@@ -225,7 +225,7 @@ fn place_tree(kept: Option<LinePlace>) -> Option<LineTree>
     }
 }
 
-/// The hole place with which the parts begin.
+/// Returns the hole place with which the parts begin.
 fn begin_place(alloc: Global, parts: &[&[u8]]) -> Result<Option<BeginRead>, AllocError>
     ensures { IfOk result (λ o. MatchOption o (HasNoPlace (texts parts.now)) (IsBeginRead (texts parts.now))) }
 {
@@ -237,7 +237,7 @@ fn begin_place(alloc: Global, parts: &[&[u8]]) -> Result<Option<BeginRead>, Allo
     Ok(Some(BeginRead { begin, taken }))
 }
 
-/// What the name of an operator or the word of a place begins.
+/// Returns what the name of an operator or the word of a place begins.
 fn begin_operator(alloc: Global, parts: &[&[u8]]) -> Result<Option<BeginRead>, AllocError>
     requires { IsOwnName (first_of (texts parts.now)) }
     ensures { IfOk result (λ o. MatchOption o (HasNoBegin (texts parts.now)) (IsBeginRead (texts parts.now))) }

@@ -50,7 +50,7 @@ pub enum TreeWalk {
     Done(Option<LineTree>),
 }
 
-/// The frame with the specimen as its last part or element, if it is kept.
+/// Returns the frame with the specimen as its last part or element, if it is kept.
 fn filled(frame: OpenTree, tree: Option<LineTree>) -> Result<OpenTree, AllocError>
     ensures { IfOk result (IsFilledBy frame tree) }
 {
@@ -69,14 +69,14 @@ fn filled(frame: OpenTree, tree: Option<LineTree>) -> Result<OpenTree, AllocErro
     }
 }
 
-/// The specimen, unless something is nested too deep.
+/// Returns the specimen, unless something is nested too deep.
 fn unless_deep(deep: bool, tree: Option<LineTree>) -> Option<LineTree>
     ensures { result ≡ cond deep None tree }
 {
     if deep { None } else { tree }
 }
 
-/// A specimen ends inside the open ones.
+/// Ends a specimen inside the open ones.
 fn placed(trees: OpenTrees, tree: Option<LineTree>) -> Result<TreeWalk, AllocError>
     ensures { IfOk result (λ w. (fs : List TreeFrame) (t : WrittenTree) → AreTreesOpen trees fs
         → (trees.deep ≡ false → MatchOption tree (Unit {0}) (λ x. x ≡ t)) → IsPlaced trees.deep tree fs t w) }
@@ -91,7 +91,7 @@ fn placed(trees: OpenTrees, tree: Option<LineTree>) -> Result<TreeWalk, AllocErr
     Ok(TreeWalk::After(OpenTrees { frames, deep }))
 }
 
-/// An operator or a list begins inside the open ones.
+/// Begins an operator or a list inside the open ones.
 fn opened(trees: OpenTrees, frame: OpenTree) -> Result<TreeWalk, AllocError>
     ensures { IfOk result (λ w. (fs : List TreeFrame) → AreTreesOpen trees fs
         → IsTreeWalk w (expects (frame_of frame ∷ fs)) × (is_deep w ≡ (trees.deep || nat_le most_nested (length fs)))) }
@@ -102,7 +102,7 @@ fn opened(trees: OpenTrees, frame: OpenTree) -> Result<TreeWalk, AllocError>
     Ok(TreeWalk::Expects(OpenTrees { frames, deep }))
 }
 
-/// The parts with one more, unless something is nested too deep.
+/// Returns the parts with one more, unless something is nested too deep.
 fn one_more(parts: Vec<LinePart>, part: LinePart, deep: bool) -> Result<Vec<LinePart>, AllocError>
     ensures { IfOk result (λ v. deep ≡ false → v.items ≡ parts.items ++ part ∷ []) }
 {
@@ -113,7 +113,7 @@ fn one_more(parts: Vec<LinePart>, part: LinePart, deep: bool) -> Result<Vec<Line
     Ok(parts)
 }
 
-/// A name, a number or a text as the next part of the innermost operator. A list has none.
+/// Puts a name, a number or a text as the next part into the innermost operator. A list has none.
 fn with_part(trees: OpenTrees, part: LinePart) -> Result<Option<TreeWalk>, AllocError>
     ensures { IfOk result (λ o. (fs : List TreeFrame) → IsLiteral part → AreTreesOpen trees fs
         → IsMoved (expects fs) (begun fs (a_part part)) trees.deep o) }
@@ -148,7 +148,7 @@ fn begun(trees: OpenTrees, begin: TreeBegin) -> Result<Option<TreeWalk>, AllocEr
     }
 }
 
-/// After a comma the next part or element is to begin.
+/// Passes a comma, after which the next part or element is to begin.
 fn behind_comma(trees: OpenTrees) -> Option<TreeWalk>
     ensures { (fs : List TreeFrame) → AreTreesOpen trees fs
         → IsMoved (after fs) (finished fs a_comma) trees.deep result }
@@ -160,7 +160,7 @@ fn behind_comma(trees: OpenTrees) -> Option<TreeWalk>
     }
 }
 
-/// The innermost operator ends.
+/// Ends the innermost operator.
 fn closed(trees: OpenTrees) -> Result<Option<TreeWalk>, AllocError>
     ensures { IfOk result (λ o. (fs : List TreeFrame) → AreTreesOpen trees fs
         → IsMoved (after fs) (finished fs a_close) trees.deep o) }
@@ -177,7 +177,7 @@ fn closed(trees: OpenTrees) -> Result<Option<TreeWalk>, AllocError>
     Ok(Some(walk))
 }
 
-/// The innermost list ends.
+/// Ends the innermost list.
 fn ended(trees: OpenTrees, end: ListEnd) -> Result<Option<TreeWalk>, AllocError>
     ensures { IfOk result (λ o. (fs : List TreeFrame) (e : WrittenTree) → AreTreesOpen trees fs → ShowsEnd end e
         → IsMoved (after fs) (finished fs (an_end e)) trees.deep o) }
@@ -244,7 +244,7 @@ fn go_on(
     Ok(Some((walk, taken)))
 }
 
-/// A step of the walk, if one is possible.
+/// Makes a step of the walk, if one is possible.
 fn advance(
     alloc: Global,
     walk: TreeWalk,
@@ -260,14 +260,14 @@ fn advance(
     }
 }
 
-/// Whether the walk is at its end.
+/// Says whether the walk is at its end.
 fn is_done(walk: &TreeWalk) -> bool
     ensures { IsTrue result ↔ IsTreeDone walk.now }
 {
     matches!(walk, TreeWalk::Done(_))
 }
 
-/// The specimen of a walk that is at its end, if it is kept.
+/// Returns the specimen of a walk that is at its end, if it is kept.
 fn kept_tree(walk: TreeWalk) -> Option<LineTree>
     ensures { result ≡ kept_tree walk }
 {

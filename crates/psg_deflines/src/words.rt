@@ -8,14 +8,15 @@ use psg_lexis::{LexFault, Lexis, Spanned, Token, lex};
 use psg_terms::Txt;
 use std::alloc::{AllocError, Global};
 
-/// Whether the token is of a kind that a fixed word may be.
+/// Says whether the token is of a kind that a fixed word may be.
 fn is_fixed_token(token: &Token) -> bool
     ensures { IsTrue result ↔ IsFixedToken token.now }
 {
     matches!(token, Token::Word(_) | Token::Solo(_) | Token::Symbol(_))
 }
 
-/// Whether there is one token, which takes all the bytes, `len` of them, and is of a kind that a fixed word may be.
+/// Says whether there is one token, which takes all the bytes, `len` of them, and is of a kind that a fixed word may
+/// be.
 fn is_one_token(tokens: &[Spanned], len: usize) -> bool
     ensures { IsTrue result ↔ IsOneToken tokens.now len }
 {
@@ -25,7 +26,7 @@ fn is_one_token(tokens: &[Spanned], len: usize) -> bool
     }
 }
 
-/// No, unless memory ran out.
+/// Returns `false`, unless memory ran out.
 fn unless_memory(fault: LexFault) -> Result<bool, AllocError>
     ensures { IfOk result (λ b. (b ≡ false) × (fault ≢ LexFault.Memory)) }
 {

@@ -99,7 +99,7 @@ fn write_items(out: &mut String, items: &[LineItem]) -> Result<(), AllocError>
     Ok(())
 }
 
-/// The digit, empty for a number above 9.
+/// Returns the digit, and nothing for a number above 9.
 fn digit_of(number: u8) -> &'static str
     ensures { number < 10 → result.now ≡ (48 + number) ∷ [] }
 {

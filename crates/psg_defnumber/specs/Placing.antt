@@ -85,7 +85,8 @@ module _ (file : List Line) where
     abbrev pub CaseFits : Kind → ℕ → WrittenTerm → WrittenTree → Type 0
     CaseFits kind sort w tree = TermStands file sorts sort w × TreeFits kind tree
 
-  -- For some sorts of the variables in each of them, the cases before the next hole row may be of the kind and the sort.
+  -- For some sorts of the variables in each of them, the cases before the next hole row may be of the kind and the
+  -- sort.
   abbrev pub CasesFit : Kind → ℕ → List Line → Type 0
   CasesFit kind sort [] = Unit {0}
   CasesFit kind sort (lines.Hole of_kind w specimen ∷ rest) = Unit {0}

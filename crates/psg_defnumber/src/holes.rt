@@ -23,7 +23,7 @@ use psg_grammar::{Case, DeclareRow, Definition, HoleRow, Kind};
 use psg_terms::{Seq, SortId, Txt};
 use std::alloc::{AllocError, Global};
 
-/// Whether the line declares a hole row.
+/// Says whether the line declares a hole row.
 fn is_hole(entry: &Option<Line>) -> bool
     ensures { IsTrue result ↔ IsHoleEntry entry.now }
 {
@@ -65,7 +65,7 @@ fn put_case(
     Ok(())
 }
 
-/// The cases in front of the next hole row's line, in order.
+/// Returns the cases in front of the next hole row's line, in order.
 fn cases(
     alloc: Global,
     definition: &Definition,
@@ -90,7 +90,7 @@ fn cases(
     Ok(made)
 }
 
-/// A hole row. Its specimen makes its one case; without one its cases follow its line.
+/// Makes a hole row. Its specimen makes its one case; without one its cases follow its line.
 fn hole_row(
     alloc: Global,
     definition: &Definition,

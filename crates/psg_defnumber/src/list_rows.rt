@@ -51,7 +51,7 @@ fn put_nil(
     Ok(())
 }
 
-/// A cell row, with the columns of an element and of the rest.
+/// Makes a cell row, with the columns of an element and of the rest.
 fn cell(
     alloc: Global,
     definition: &Definition,

@@ -19,7 +19,7 @@ use psg_grammar::Definition;
 use psg_terms::{Seq, Signature};
 use std::alloc::{AllocError, Global};
 
-/// A definition of the sorts alone.
+/// Makes a definition of the sorts alone.
 fn of_sorts(alloc: Global, version: u32, signature: Signature) -> Definition
     ensures { result ≡ record {
       version = version;
@@ -44,7 +44,7 @@ fn of_sorts(alloc: Global, version: u32, signature: Signature) -> Definition
     }
 }
 
-/// All but the rows of holes and of declared names, each part by those that are made before it.
+/// Makes all but the rows of holes and of declared names, each part from those that are made before it.
 fn declared(
     alloc: Global,
     version: u32,

@@ -22,7 +22,7 @@ use psg_grammar::{Definition, Item, Operator, Row};
 use psg_terms::{Seq, SortId};
 use std::alloc::{AllocError, Global};
 
-/// An item of an operator.
+/// Returns an item of an operator.
 fn item(
     definition: &Definition,
     checked: &CheckedLines,
@@ -59,7 +59,7 @@ fn item(
     }
 }
 
-/// The items of an operator, in order.
+/// Returns the items of an operator, in order.
 fn items(
     alloc: Global,
     definition: &Definition,
@@ -108,7 +108,7 @@ fn put_column(
     }
 }
 
-/// The sorts of the columns of an operator's rows, in order.
+/// Returns the sorts of the columns of an operator's rows, in order.
 fn columns(
     alloc: Global,
     definition: &Definition,
@@ -124,7 +124,7 @@ fn columns(
     Ok(sorts)
 }
 
-/// Whether the line declares an operator.
+/// Says whether the line declares an operator.
 fn is_operator(entry: &Option<Line>) -> bool
     ensures { IsTrue result ↔ IsOperatorEntry entry.now }
 {
@@ -177,7 +177,7 @@ fn put_row(
     Ok(())
 }
 
-/// The rows in front of the next operator's line, in order.
+/// Returns the rows in front of the next operator's line, in order.
 fn rows(
     alloc: Global,
     definition: &Definition,

@@ -10,7 +10,7 @@ use psg_deflines::Line;
 use psg_terms::{ConDecl, Seq, SigFault, Signature, SortDecl, Txt};
 use std::alloc::{AllocError, Global};
 
-/// The same texts, shared.
+/// Returns the same texts, shared.
 fn shared(alloc: Global, texts: &[Txt]) -> Result<Vec<Txt>, AllocError>
     ensures { IfOk result (λ v. v.items ≡ texts.now) }
 {
@@ -22,7 +22,7 @@ fn shared(alloc: Global, texts: &[Txt]) -> Result<Vec<Txt>, AllocError>
     Ok(made)
 }
 
-/// The same constructors, with shared names.
+/// Returns the same constructors, with shared names.
 fn con_decls(alloc: Global, decls: &[ConDecl]) -> Result<Vec<ConDecl>, AllocError>
     ensures { IfOk result (λ v. v.items ≡ decls.now) }
 {
@@ -57,7 +57,7 @@ fn put_sort(alloc: Global, made: &mut Vec<SortDecl>, entry: &Option<Line>) -> Re
     Ok(())
 }
 
-/// The sorts as a signature takes them, in order.
+/// Returns the sorts as a signature takes them, in order.
 fn sort_lines(alloc: Global, entries: &[Option<Line>]) -> Result<Vec<SortDecl>, AllocError>
     ensures { IfOk result (λ v. v.items ≡ sort_decls (written entries.now)) }
 {

@@ -28,7 +28,7 @@ use psg_grammar::{Definition, Item, Kind, Specimen, SpecimenHole, SpecimenPart, 
 use psg_terms::Seq;
 use std::alloc::{AllocError, Global};
 
-/// The value of digits.
+/// Returns the value of digits.
 fn decimal(digits: &str) -> u128
     requires digits { is_digits digits.now ≡ true }
     requires small { value_of digits.now < 2 ^ 128 }
@@ -43,7 +43,7 @@ fn decimal(digits: &str) -> u128
     value
 }
 
-/// The place of a kind with a term of its sort.
+/// Returns the place of a kind with a term of its sort.
 fn place<'a>(
     alloc: Global,
     definition: &Definition,
@@ -73,7 +73,7 @@ fn place<'a>(
     Ok(SpecimenHole { kind, term: made })
 }
 
-/// The rest of a list, which is a place of the list.
+/// Returns the rest of a list, which is a place of the list.
 fn list_rest<'a>(
     alloc: Global,
     definition: &Definition,
@@ -100,7 +100,7 @@ fn list_rest<'a>(
     }
 }
 
-/// The items that have parts.
+/// Returns the items that have parts.
 fn items_of<'d>(alloc: Global, items: &'d [Item]) -> Result<Vec<&'d Item>, AllocError>
     ensures { IfOk result (λ v. map (λ (b : Bor PlainItem). b.now) v.items ≡ part_items items.now) }
 {
@@ -113,7 +113,7 @@ fn items_of<'d>(alloc: Global, items: &'d [Item]) -> Result<Vec<&'d Item>, Alloc
     Ok(parts)
 }
 
-/// The part of an item.
+/// Returns the part of an item.
 #[cycle(specimen)]
 fn part<'a>(
     alloc: Global,
@@ -163,7 +163,7 @@ fn part<'a>(
     }
 }
 
-/// The parts of these items, one by one.
+/// Returns the parts of these items, one by one.
 #[cycle(specimen)]
 fn parts<'a>(
     alloc: Global,

@@ -11,7 +11,7 @@ use psg_deflines::Line;
 use psg_grammar::{Case, DeclareRow, Definition, HoleRow};
 use std::alloc::{AllocError, Global};
 
-/// The line of a case.
+/// Returns the line of a case.
 fn case_line(alloc: Global, definition: &Definition, case: &Case) -> Result<Line, AllocError>
     ensures { IfOk result (λ l. l ≡ case_line definition.now case.now) }
 {
@@ -36,7 +36,7 @@ fn push_cases(
     Ok(())
 }
 
-/// The line of a hole row without its cases.
+/// Returns the line of a hole row without its cases.
 fn hole_line(alloc: Global, definition: &Definition, row: &HoleRow) -> Result<Line, AllocError>
     ensures { IfOk result (λ l. l
         ≡ lines.Hole (kind_name definition.now row.now.kind) (term_written definition.now row.now.term) None) }
@@ -80,7 +80,7 @@ pub fn push_holes(
     Ok(())
 }
 
-/// The line of a declare row.
+/// Returns the line of a declare row.
 fn declare_line(
     alloc: Global,
     definition: &Definition,

@@ -7,7 +7,7 @@ use psg_deflines::Line;
 use psg_grammar::{Definition, ListKind, Phylum, Space};
 use std::alloc::{AllocError, Global};
 
-/// The line of a space.
+/// Returns the line of a space.
 fn space_line(alloc: Global, definition: &Definition, space: &Space) -> Result<Line, AllocError>
     ensures { IfOk result (λ l. l ≡ space_line definition.now space.now) }
 {
@@ -32,7 +32,7 @@ pub fn push_spaces(
     Ok(())
 }
 
-/// The line of a phylum.
+/// Returns the line of a phylum.
 fn phylum_line(alloc: Global, definition: &Definition, phylum: &Phylum) -> Result<Line, AllocError>
     ensures { IfOk result (λ l. l ≡ phylum_line definition.now phylum.now) }
 {
@@ -62,7 +62,7 @@ pub fn push_phyla(
     Ok(())
 }
 
-/// The line of a list.
+/// Returns the line of a list.
 fn list_line(alloc: Global, definition: &Definition, list: &ListKind) -> Result<Line, AllocError>
     ensures { IfOk result (λ l. l ≡ list_line definition.now list.now) }
 {

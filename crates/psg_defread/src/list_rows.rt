@@ -10,7 +10,7 @@ use psg_grammar::{Definition, ListKind, Row};
 use psg_terms::{Term, Txt};
 use std::alloc::{AllocError, Global};
 
-/// The line of a row of an empty list.
+/// Returns the line of a row of an empty list.
 fn nil_line(
     alloc: Global,
     definition: &Definition,
@@ -56,7 +56,7 @@ pub fn push_nils(
     Ok(())
 }
 
-/// The line of a row of a list with an element: the terms of the list, of the element and of its rest.
+/// Returns the line of a row of a list with an element: the terms of the list, of the element and of its rest.
 fn cell_line(
     alloc: Global,
     definition: &Definition,

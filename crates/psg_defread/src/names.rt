@@ -8,14 +8,14 @@ use psg_grammar::{Definition, Kind};
 use psg_terms::{ConId, Signature, SortId, Txt};
 use std::alloc::{AllocError, Global};
 
-/// The empty name.
+/// Returns the empty name.
 fn no_name(alloc: Global) -> Result<Txt, AllocError>
     ensures { IfOk result (λ n. n ≡ []) }
 {
     Ok(Txt::copy_of(alloc, "")?)
 }
 
-/// The name of a sort, empty where there is none.
+/// Returns the name of a sort, empty where there is none.
 fn sort_text(sig: &Signature, sort: SortId) -> &str
     ensures { result.now ≡ name_at (λ n. n) sig.now.sorts sort.0 }
 {

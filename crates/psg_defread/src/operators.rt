@@ -12,7 +12,7 @@ use psg_grammar::{Definition, Item, Operator, Row};
 use psg_terms::Seq;
 use std::alloc::{AllocError, Global};
 
-/// An item as it is written.
+/// Returns an item as it is written.
 fn item_written(alloc: Global, definition: &Definition, item: &Item) -> Result<LineItem, AllocError>
     ensures { IfOk result (λ w. w ≡ item_written definition.now item.now) }
 {
@@ -47,7 +47,7 @@ fn items_written(
     Ok(written)
 }
 
-/// The line of a row of an operator.
+/// Returns the line of a row of an operator.
 fn row_line(alloc: Global, definition: &Definition, row: &Row) -> Result<Line, AllocError>
     ensures { IfOk result (λ l. l ≡ row_line definition.now row.now) }
 {
@@ -73,7 +73,7 @@ fn push_rows(
     Ok(())
 }
 
-/// The line of an operator without its rows.
+/// Returns the line of an operator without its rows.
 fn operator_line(
     alloc: Global,
     definition: &Definition,

@@ -11,7 +11,7 @@ use psg_grammar::Definition;
 use psg_terms::{ConDecl, ConId, Seq, SortDecl, SortId, Txt};
 use std::alloc::{AllocError, Global};
 
-/// The names of sorts.
+/// Returns the names of sorts.
 fn sorts_written(
     alloc: Global,
     definition: &Definition,
@@ -27,7 +27,7 @@ fn sorts_written(
     Ok(written)
 }
 
-/// The constructor as its sort declares it.
+/// Returns the constructor as its sort declares it.
 fn constructor_written(
     alloc: Global,
     definition: &Definition,
@@ -43,7 +43,7 @@ fn constructor_written(
     Ok(ConDecl { name, args })
 }
 
-/// The constructors of a sort, in order.
+/// Returns the constructors of a sort, in order.
 fn constructors_written(
     alloc: Global,
     definition: &Definition,
@@ -61,7 +61,7 @@ fn constructors_written(
     Ok(written)
 }
 
-/// The line of a sort.
+/// Returns the line of a sort.
 fn sort_line(alloc: Global, definition: &Definition, sort: SortId) -> Result<Line, AllocError>
     requires { sort.0 < length definition.now.signature.sorts }
     ensures { IfOk result (λ l. l ≡ lines.Sort (record {

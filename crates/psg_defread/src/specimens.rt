@@ -11,7 +11,7 @@ use psg_grammar::{Definition, Specimen, SpecimenHole, SpecimenPart};
 use psg_terms::{Seq, Txt};
 use std::alloc::{AllocError, Global};
 
-/// A place as it is written.
+/// Returns a place as it is written.
 fn place_written(
     alloc: Global,
     definition: &Definition,
@@ -25,7 +25,7 @@ fn place_written(
     Ok(LinePlace { kind, term })
 }
 
-/// What a list goes on with after its elements.
+/// Returns what a list goes on with after its elements.
 fn rest_written(
     alloc: Global,
     definition: &Definition,
@@ -42,7 +42,7 @@ fn rest_written(
     }
 }
 
-/// A number, by its digits.
+/// Returns a number, by its digits.
 fn number_written(alloc: Global, number: u128) -> Result<Txt, AllocError>
     ensures { IfOk result (λ d. d ≡ decimal number) }
 {
@@ -50,7 +50,7 @@ fn number_written(alloc: Global, number: u128) -> Result<Txt, AllocError>
     Ok(Txt::of(alloc, digits)?)
 }
 
-/// A part of an operator as it is written.
+/// Returns a part of an operator as it is written.
 #[cycle(tree)]
 fn part_written(
     alloc: Global,

@@ -9,7 +9,7 @@ use psg_grammar::{Definition, Row};
 use psg_terms::{ConId, Node, Seq, Term, Txt};
 use std::alloc::{AllocError, Global};
 
-/// A variable, by its number.
+/// Returns a variable, by its number.
 fn variable(alloc: Global, number: u32) -> Result<LineTerm, AllocError>
     ensures { IfOk result (λ w. w ≡ variable (decimal number)) }
 {
@@ -20,7 +20,7 @@ fn variable(alloc: Global, number: u32) -> Result<LineTerm, AllocError>
     })
 }
 
-/// A constructor with arguments.
+/// Returns a constructor with arguments.
 fn applied(
     alloc: Global,
     definition: &Definition,

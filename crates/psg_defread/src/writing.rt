@@ -25,7 +25,7 @@ fn push_line(alloc: Global, text: &mut String, line: &Line) -> Result<(), AllocE
     Ok(())
 }
 
-/// The first line of a definition of the version, with its line feed.
+/// Returns the first line of a definition of the version, with its line feed.
 fn head(version: u32) -> &'static str
     ensures { IsVersion version → result.now ≡ codes "psg " ++ (48 + version) ∷ 10 ∷ [] }
 {

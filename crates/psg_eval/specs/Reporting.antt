@@ -18,9 +18,9 @@ pub record Twice (p x : List Term) : Type 0 where
   pub row_is : p ≡ value ∷ others
   pub made_is : x ≡ value ∷ value ∷ others
 
--- Where the frames are those of a node of the fragment, `seen` is what is answered for the node with its value observed,
--- and `whole` is what a climb from there answers for each tree with that summary at the place, the rows of `whole` are
--- those that report the node's value.
+-- Where the frames are those of a node of the fragment, `seen` is what is answered for the node with its value
+-- observed, and `whole` is what a climb from there answers for each tree with that summary at the place, the rows of
+-- `whole` are those that report the node's value.
 abbrev pub IsReportMade : Definition → Type 0
 IsReportMade def = (frames : List Frame) (path : Path) (f node : Fragment) (seen whole : SummaryParts)
     → StandFor def frames path f node

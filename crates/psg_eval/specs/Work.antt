@@ -19,7 +19,7 @@ use Rattle.psg_eval.specs.Stages.{IsCellStart}
 abbrev pub join_work : List (List Term) → List (List Term) → ℕ
 join_work left right = weight_of left * length right + weight_of right * length left
 
--- each of so many terms in each of so many rows counts 8
+-- each of that many terms in each of that many rows counts 8
 abbrev pub rows_work : ℕ → ℕ → ℕ
 rows_work rows terms = 8 * rows * terms
 

@@ -204,8 +204,8 @@ fn raised<L: Ledger>(
     }
 }
 
-/// Returns the summary of the whole tree from that of the tree at the place that the frames surround. What a node begins
-/// with is made where it is not among the starts.
+/// Returns the summary of the whole tree from that of the tree at the place that the frames surround. What a node
+/// begins with is made where it is not among the starts.
 pub(crate) fn climb_from<L: Ledger>(
     alloc: Global,
     definition: &Definition,

@@ -7,9 +7,9 @@
 //!
 //! A summary has the kind of a tree, its header, and its relation: the most general rows of what its value and the
 //! entities of its keys can be. That of a node is made step by step, from its own rows and one child after the other,
-//! so no tree is needed, and what a step keeps is as small as its most general rows. `op_steps` and `cell_steps` give the
-//! rows of each of these steps. A frame has summaries of what is around a tree. `Tables` has what does not depend on
-//! the tree, made once for a definition: its calls answer the same.
+//! so no tree is needed, and what a step keeps is as small as its most general rows. `op_steps` and `cell_steps` give
+//! the rows of each of these steps. A frame has summaries of what is around a tree. `Tables` has what does not depend
+//! on the tree, made once for a definition: its calls answer the same.
 #![tactic(auto)]
 
 mod cell;

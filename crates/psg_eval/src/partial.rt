@@ -218,8 +218,8 @@ pub(crate) fn summary_of(alloc: Global, kind: Kind, whole: Partial) -> Result<Su
 }
 
 /// Returns the node with a place as its next child. A place may have any value, so the first wanted value is now the
-/// last that is seen, and the rows are the same. It takes no memory, and fails as if out of memory exactly where 32 bits
-/// do not hold the number of seen values.
+/// last that is seen, and the rows are the same. It takes no memory, and fails as if out of memory exactly where 32
+/// bits do not hold the number of seen values.
 pub(crate) fn with_place(before: Partial) -> Result<Partial, AllocError>
     requires { 0 < before.wanted }
     ensures partial { IfOk result (λ p.

@@ -77,7 +77,7 @@ impl Apart {
     }
 }
 
-/// The keys apart by whether they have the name.
+/// Takes the keys apart by whether they have the name.
 fn taken_apart(alloc: Global, names: &[NameCol], from: &Txt, to: &Txt) -> Result<Apart, AllocError>
     ensures moved { IfOk result (λ a. a.moved.items ≡ moved_names from.now to.now names.now) }
     ensures moved_columns { IfOk result (λ a. a.moved_columns.items ≡ moved_places from.now 1 names.now) }
@@ -106,7 +106,7 @@ struct Parts {
     other_columns: Vec<usize>,
 }
 
-/// The header's keys with a name, under another one, and the rest of the header.
+/// Returns the header's keys with a name, under another one, and the rest of the header.
 fn halves(alloc: Global, header: &Header, from: &Txt, to: &Txt) -> Result<Parts, AllocError>
     ensures moved { IfOk result (λ h. h.moved ≡ moved_header from.now to.now header.now) }
     ensures moved_columns { IfOk result (λ h. h.moved_columns.items ≡ moved_places from.now 1 header.now.names) }
@@ -132,7 +132,7 @@ fn halves(alloc: Global, header: &Header, from: &Txt, to: &Txt) -> Result<Parts,
     })
 }
 
-/// The columns of the joined keys, which are all in one row.
+/// Returns the columns of the joined keys, which are all in one row.
 fn joined_columns(
     alloc: Global,
     joined: &Joined,
@@ -150,7 +150,7 @@ fn joined_columns(
     Ok(placed)
 }
 
-/// The column of the value, and after it these columns.
+/// Returns the column of the value, and after it these columns.
 fn with_value(alloc: Global, columns: &[usize]) -> Result<Vec<usize>, AllocError>
     ensures { IfOk result (λ v. v.items ≡ 0 ∷ columns.now) }
 {
@@ -160,7 +160,7 @@ fn with_value(alloc: Global, columns: &[usize]) -> Result<Vec<usize>, AllocError
     Ok(keep)
 }
 
-/// The relation of the columns. It is within the limit, since the rows are and no column is kept twice.
+/// Returns the relation of the columns. It is within the limit, since the rows are and no column is kept twice.
 fn kept_rows(
     alloc: Global,
     definition: &Definition,

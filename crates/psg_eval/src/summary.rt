@@ -27,13 +27,13 @@ pub struct SummaryParts {
 }
 
 /// The kind, header and relation of a tree, shared by its owners. Only the calls of this crate make one. Each call that
-/// evaluates a node or repeats a value counts a tick; `renaming::renamed` makes one of another summary, evaluates nothing
-/// and counts none.
+/// evaluates a node or repeats a value counts a tick; `renaming::renamed` makes one of another summary, evaluates
+/// nothing and counts none.
 pub struct Summary {
     shared: Rc<SummaryParts>,
 }
 
-// written out, so that it is proved once, and not anew in each crate where such a value is let go
+// written out, so that it is proved once, and not again in each crate where such a value is let go
 impl Drop for Summary {
     fn drop(self) {
         let Summary { shared } = self;

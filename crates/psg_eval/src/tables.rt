@@ -155,7 +155,8 @@ impl Tables {
     /// Returns the summary of the whole tree from that of the tree at the place that the frames surround, as `climb`
     /// does. The steps 0 are looked up, as in `eval_op` and `eval_cell`.
     ///
-    /// It takes one tick for an `Op` frame, and for an `Elem` frame one for its element and for each of those before it.
+    /// It takes one tick for an `Op` frame, and for an `Elem` frame one for its element and for each of those before
+    /// it.
     pub fn climb<L: Ledger>(
         &self,
         alloc: Global,

@@ -1,5 +1,6 @@
 -- What is added to the steps of a tree: those of its children, one after the other, and then its own.
-use Rattle.std.specs.Prelude.{ℕ, ◌≡◌, ◌+◌, ◌-◌, ◌||◌, Bool, false, List, [], ◌∷◌, ◌++◌, drop, length, Option, Some, slice_get}
+use Rattle.std.specs.Prelude.{ℕ, ◌≡◌, ◌+◌, ◌-◌, ◌||◌, Bool, false, List, [], ◌∷◌, ◌++◌, drop, length, Option, Some}
+use Rattle.std.specs.Prelude.{slice_get}
 use Rattle.psg_grammar.specs.declared.types.Kind.{Kind}
 use Rattle.psg_grammar.specs.declared.types.Definition.{Definition}
 use Rattle.psg_grammar.specs.Fragments.{Fragment}
@@ -36,7 +37,8 @@ JoinsHeaders left right joint =
 
 -- the header of what passes outward
 abbrev pub ClosesHeader : Header → Header → Type 0
-ClosesHeader inside outside = (names declared : List Key) (unfinished : ℕ → Bool) → IsHeader names declared unfinished inside
+ClosesHeader inside outside = (names declared : List Key) (unfinished : ℕ → Bool)
+    → IsHeader names declared unfinished inside
     → IsHeader (outward unfinished declared names) [] (λ _. false) outside
 
 -- the regions of the two steps are made one

@@ -29,4 +29,5 @@ module _ (def : Definition) where
   abbrev pub AreClaims : List (List (List Term)) → List Step → List Claim → Type 0
   AreClaims before steps [] = Unit {0}
   AreClaims before [] (c ∷ claims) = ⊥
-  AreClaims before (s ∷ steps) (c ∷ claims) = IsClaim def (at_of def before s) c × AreClaims (before ++ c.rows ∷ []) steps claims
+  AreClaims before (s ∷ steps) (c ∷ claims) = IsClaim def (at_of def before s) c
+      × AreClaims (before ++ c.rows ∷ []) steps claims

@@ -18,7 +18,7 @@ abbrev pub position_keys : Option NameCol → List Key
 position_keys None = []
 position_keys (Some c) = declared_keys (c ∷ [])
 
--- the keys that the part declares, where the next name stands at this one of the positions
+-- the keys that the part declares, where the next name is at this one of the positions
 abbrev pub part_keys : Definition → List NameCol → ℕ → Part → List Key
 part_keys def own n (parts.Sub t) = declared_in def t
 part_keys def own n (parts.Name m) = position_keys (slice_get own n)
@@ -41,7 +41,7 @@ IsLeast (Some other) key least =
     ((key_cmp (key_of key) (key_of other) ≡ Less) × (least ≡ key))
     ⊎ ((key_cmp (key_of key) (key_of other) ≡ Less → ⊥) × (least ≡ other))
 
--- of the keys in front the first one that stands at two places of the list
+-- of the keys in front the first one that is at two places of the list
 abbrev pub IsFirstAmong : List Key → List Key → Option NameCol → Type 0
 IsFirstAmong ks front None = (other : Key) → is_among front other ≡ true → is_twice_among ks other ≡ true → ⊥
 IsFirstAmong ks front (Some c) = (is_twice_among ks (key_of c) ≡ true)

@@ -29,18 +29,18 @@ IsClash e = (c d : ℕ) × (head_of e.0 ≡ Some c) × (head_of e.1 ≡ Some d) 
 abbrev pub term_of : Variable → Term
 term_of x = variable x.0 x.1
 
--- the variable stands properly inside the term
+-- the variable is properly inside the term
 abbrev pub StandsInside : Variable → Term → Type 0
 StandsInside x (variable s n) = ⊥
 StandsInside x (symbol c) = ⊥
 StandsInside x (apply f a) = is_noted x (variables (apply f a)) ≡ true
 
--- one side is a variable that stands properly inside the other side
+-- one side is a variable that is properly inside the other side
 abbrev pub IsCircle : Equation → Type 0
 IsCircle e = (x : Variable)
     × (((e.0 ≡ term_of x) × StandsInside x e.1) ⊎ ((e.1 ≡ term_of x) × StandsInside x e.0))
 
--- one is a variable that stands properly inside the other
+-- one is a variable that is properly inside the other
 abbrev pub IsInside : Term → Term → Type 0
 IsInside one other = (x : Variable) × (one ≡ term_of x) × StandsInside x other
 

@@ -36,7 +36,7 @@ all_pairs_in (m ∷ steps) = m.pairs + all_pairs_in steps
 abbrev pub most_pairs : ℕ
 most_pairs = 65536
 
--- the first key, in the order of keys, that stands at two places of the list
+-- the first key, in the order of keys, that is at two places of the list
 pub record IsFirstTwice (ks : List Key) (k : Key) : Type 0 where
   pub twice : is_twice_among ks k ≡ true
   pub first : (other : Key) → is_twice_among ks other ≡ true → (other ≡ k) ⊎ (key_cmp k other ≡ Less)
@@ -63,7 +63,7 @@ module _ (def : Definition) where
     pub mark : IsMarkBy (IsCompletable def) f (wrong (path ∷ others))
     pub there : node_at f path ≡ Some node
 
-  -- a key that is declared twice comes before all else; otherwise the claimed rows are those of the steps
+  -- a key that is declared twice goes before all else; otherwise the claimed rows are those of the steps
   abbrev pub IsAbout : Path → Fragment → Refutation → Type 0
   IsAbout path node (refutations.Twice at space name) =
       (at ≡ path) × IsFirstTwice (declared_inside def node) (space ∷ name)

@@ -60,7 +60,7 @@ key_subjects term [] ts = []
 key_subjects term (k ∷ ks) [] = []
 key_subjects term (k ∷ ks) (t ∷ ts) = pick (option_map (λ u. subject_of k) (term k)) (key_subjects term ks ts)
 
--- an equation for each position whose key stood before: the term of the key's first position, and its own
+-- an equation for each position whose key was before: the term of the key's first position, and its own
 abbrev pub own_equations : List Key → List Term → List Key → List Term → List Equation
 own_equations ns us [] ts = []
 own_equations ns us (k ∷ ks) [] = []
@@ -84,7 +84,7 @@ variable_count row = length (first_occurrences row)
 abbrev pub numbered_on : ℕ → List Term → List Term
 numbered_on n row = map (substitute (raised n)) row
 
--- of what stands after the value and the first wanted value: the other wanted values, and the entities of the keys
+-- of what is after the value and the first wanted value: the other wanted values, and the entities of the keys
 abbrev pub wanted_of : List Key → List Term → List Term
 wanted_of ks more = take (length more - length ks) more
 

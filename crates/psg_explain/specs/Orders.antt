@@ -49,7 +49,8 @@ abbrev pub told_of : Place → Path × ℕ
 told_of p = (p.path, p.step)
 
 -- The claims are those of the first steps of the tree, in the order of the steps, up to the last claimed one.
-pub record AreFirstSteps (def : Definition) (path : Path) (f : Fragment) (claims : List Claim) (last : At) : Type 0 where
+pub record AreFirstSteps (def : Definition) (path : Path) (f : Fragment) (claims : List Claim)
+    (last : At) : Type 0 where
   pub front : List Place
   pub rest : List Place
   pub steps : steps_of def path f ≡ front ++ place_of last ∷ rest

@@ -16,7 +16,7 @@ use Rattle.psg_explain.specs.Given.{first_cases, next_cases, last_cases}
 use Rattle.psg_explain.specs.Walks.{At, Walk, went, ended, Takes}
 
 -- Rows are those of the node itself, or of the step before and of the last step of a child, or of the step before. The
--- steps are told by their places among all steps, and the child that is added by its number.
+-- Steps are named by their places among all steps, and the child that is added by its number.
 pub data Origin : Type 0 where
   from_itself : Origin
   from_pair : (number before child : ℕ) (tree : Fragment) → Origin
@@ -88,7 +88,7 @@ module _ (def : Definition) where
     pairs = pairs_of s.origin rows;
   }
 
-  -- ---- the steps in their order, where so many steps are before them
+  -- ---- the steps in their order, where that many steps are before them
 
   -- the last step of a scope operator
   abbrev pub closing : Bool → Path → Option ℕ → Fragment → ℕ → ℕ → List Step
@@ -148,7 +148,8 @@ module _ (def : Definition) where
         (λ n children. listing n path 0 (cell l e r) children)
     planned base path (operator o) = making base path None (operator o) []
     planned base path (with_child f t) =
-        finished base (with_last base (planned_below base path 0 f) t (λ n. planned n (path ++ length (children_of f) ∷ []) t))
+        finished base (with_last base (planned_below base path 0 f) t
+        (λ n. planned n (path ++ length (children_of f) ∷ []) t))
         (λ n children. making n path None (with_child f t) children)
     planned base path (with_name f m) =
         finished base (planned_below base path 0 f) (λ n children. making n path None (with_name f m) children)
@@ -173,14 +174,15 @@ module _ (def : Definition) where
     planned_below base path n anything = record { steps = []; children = [] }
     planned_below base path n (observed f) = record { steps = []; children = [] }
 
--- what steps come to: the rows of all of them and what is left, or a step without rows
+-- the result of steps: the rows of all of them and what is left, or a step without rows
 pub data Flow (X : Type 0) : Type 0 where
   through : (rows : List (List (List Term))) (left : List X) → Flow X
   halted : (last : At) → Flow X
 
 -- An item for each of the steps, one after the other, where the steps before have these rows.
 module _ (def : Definition) {X : Type 0} (rows_in : X → List (List Term)) (IsOf : At → X → Type 0) where
-  abbrev pub Onward : List (List (List Term)) → Walk X → (List (List (List Term)) → List X → Flow X → Type 0) → Flow X → Type 0
+  abbrev pub Onward : List (List (List Term)) → Walk X → (List (List (List Term)) → List X → Flow X → Type 0) → Flow X
+      → Type 0
   Onward rows (went more left) Goes r = Goes (rows ++ more ∷ []) left r
   Onward rows (ended last) Goes r = r ≡ halted last
 

@@ -1,4 +1,4 @@
--- What the search for the reasons of cases comes to.
+-- The result of the search for the reasons of cases.
 use Rattle.std.specs.Prelude.{ℕ, ◌≡◌, ◌+◌, ◌<◌, ◌≤◌, length, map, take, slice_get, Some, None, List}
 use Rattle.std.specs.List.{AllByRecursion}
 use Rattle.psg_grammar.specs.declared.types.Definition.{Definition}
@@ -20,7 +20,7 @@ pub record IsFirst (given : List Equation) (f : First) : Type 0 where
   pub first : IsReason (take (f.number + 1) given) (Some f.reason)
   pub whole : IsReason given (Some f.reason)
 
--- so many of the given equations have a common solution, and so many have none
+-- that many of the given equations have a common solution, and that many have none
 pub record IsSpan (given : List Equation) (s : Span) : Type 0 where
   pub apart : s.low < s.high
   pub within : s.high ≤ length given

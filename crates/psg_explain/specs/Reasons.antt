@@ -13,9 +13,9 @@ paired [] bs = []
 paired (a ∷ as') [] = []
 paired (a ∷ as') (b ∷ bs) = (a, b) ∷ paired as' bs
 
--- The first equation is taken. Equal sides: it is dropped. Equal constructors: the equations of its arguments are put in
--- its place. A variable on the left, or else on the right: it is replaced everywhere, where it does not stand inside the
--- other side. The reason is the first equation that cannot be solved, as it is then, or there is none.
+-- The first equation is taken. Equal sides: it is dropped. Equal constructors: the equations of its arguments are put
+-- in its place. A variable on the left, or else on the right: it is replaced everywhere, if it is not inside the other
+-- side. The reason is the first equation that cannot be solved, as it is then, or there is none.
 pub data IsReason : List Equation → Option Reason → Type 0 where
   solved : IsReason [] None
   equal : {a : Term} {rest : List Equation} {r : Option Reason} → IsReason rest r → IsReason ((a, a) ∷ rest) r

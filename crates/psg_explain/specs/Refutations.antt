@@ -1,5 +1,6 @@
 -- Claims on the steps of a tree, and when they show that it has no completion.
-use Rattle.std.specs.Prelude.{ℕ, ◌≡◌, ◌≤◌, ◌+◌, ◌||◌, ◌&&◌, Bool, true, false, bytes_eq, List, [], ◌∷◌, ◌++◌, drop, Option, Some, None}
+use Rattle.std.specs.Prelude.{ℕ, ◌≡◌, ◌≤◌, ◌+◌, ◌||◌, ◌&&◌, Bool, true, false, bytes_eq, List, [], ◌∷◌, ◌++◌, drop}
+use Rattle.std.specs.Prelude.{Option, Some, None}
 use Rattle.std.specs.Prelude.{slice_get, option_and_then}
 use Rattle.psg_terms.specs.Names.{is_among}
 use Rattle.psg_terms.specs.Terms.{Term}
@@ -32,7 +33,7 @@ use Rattle.psg_explain.specs.Verdicts.{IsRight}
 use Rattle.psg_explain.specs.Walks.{At, ended, Walks}
 pub use Rattle.psg_explain.specs.Plans.{rows_claimed}
 
--- whether the key stands at two places of the list
+-- whether the key is at two places of the list
 abbrev pub is_twice_among : List Key → Key → Bool
 is_twice_among [] k = false
 is_twice_among (n ∷ ns) k = (bytes_eq n k && is_among ns k) || is_twice_among ns k

@@ -100,8 +100,10 @@ module _ (def : Definition) where
       ⊎ ((EndsEmpty all → ⊥) × Flows def same_rows IsRelationAt [] (planned def 0 path f) all (through all []))
 
   -- the relations of the steps of a node, where no part of the plan declares a key twice
-  pub record AreClaimable (path : Path) (node : Fragment) (stages : List Stage) (rows : List (List (List Term))) : Type 0 where
+  pub record AreClaimable (path : Path) (node : Fragment) (stages : List Stage)
+      (rows : List (List (List Term))) : Type 0 where
     pub formed : IsStepNode def node
     pub stages_are : AreStages def stages (planned def 0 path node)
-    pub distinct : AllByRecursion (λ (s : Step). has_twice (declared_inside def s.part) ≡ false) (planned def 0 path node)
+    pub distinct : AllByRecursion (λ (s : Step). has_twice (declared_inside def s.part) ≡ false)
+        (planned def 0 path node)
     pub relations : AreRelations path node rows

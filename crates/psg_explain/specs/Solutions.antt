@@ -18,7 +18,8 @@ use Rattle.psg_explain.specs.declared.solver.Solution.{Solution}
 use Rattle.psg_explain.specs.declared.solver.Task.{Task}
 use Rattle.psg_explain.specs.declared.solver.Work.{Work}
 use Rattle.psg_explain.specs.declared.putting.Variable.{Variable as Var}
-use Rattle.psg_explain.specs.Equations.{arguments_of, Derives, Equation, IsBinding, IsCircle, IsClash, IsOfHead, rewritten}
+use Rattle.psg_explain.specs.Equations.{arguments_of, Derives, Equation, IsBinding, IsCircle, IsClash, IsOfHead}
+use Rattle.psg_explain.specs.Equations.{rewritten}
 use Rattle.psg_explain.specs.Equations.{StandsInside, term_of}
 use Rattle.psg_explain.specs.Reasons.{paired}
 
@@ -28,8 +29,8 @@ use Rattle.psg_explain.specs.Reasons.{paired}
 abbrev pub Binding : Type 0
 Binding = Variable × Term
 
--- The equations are solved from the front, as for a reason, and the variables of these bindings are replaced one after the
--- other.
+-- The equations are solved from the front, as for a reason, and the variables of these bindings are replaced one after
+-- the other.
 pub data Solving : List Equation → List Binding → Option Reason → Type 0 where
   solved : Solving [] [] None
   equal : {a : Term} {rest : List Equation} {bs : List Binding} {r : Option Reason} → Solving rest bs r
@@ -70,7 +71,7 @@ IsAt all t = slice_get all t.number ≡ Some t.equation
 abbrev pub IsApartFrom : ℕ → List Task → Type 0
 IsApartFrom n tasks = AllByRecursion (λ (t : Task). t.number ≡ n → ⊥) tasks
 
--- no number stands twice
+-- no number is there twice
 abbrev pub AreApart : List Task → Type 0
 AreApart [] = Unit {0}
 AreApart (t ∷ ts) = IsApartFrom t.number ts × AreApart ts
@@ -111,7 +112,7 @@ abbrev pub IsFailure : List Equation → Option Failure → Type 0
 IsFailure all None = Unit {0}
 IsFailure all (Some f) = IsFailed all f.number f.reason
 
--- what solving an equation in front of others comes to, whatever the others are
+-- the result of solving an equation in front of others, whatever the others are
 abbrev pub Yields : Equation → Work → Found → Work → Type 0
 Yields e old found.Solved new =
     (bs : List Binding) (r : Option Reason) → Solving (tasks_of new) bs r → Solving (e ∷ tasks_of old) bs r
@@ -141,8 +142,8 @@ abbrev pub IsNextIn : Work → Option Bound → Type 0
 IsNextIn w None = IsFailure w.derived.all.items w.failure
 IsNextIn w (Some b) = IsBoundBy w.derived.all.items b × IsApartFrom b.number w.left.items
 
--- Of a derived equation, in which the variable of the binding is replaced: it stays as it is with its number, or is a new
--- one.
+-- Of a derived equation, in which the variable of the binding is replaced: it stays as it is with its number, or is a
+-- new one.
 abbrev pub IsPut : List Equation → Derived → Derived → Bound → Task → Task → Type 0
 IsPut given old new b task made =
     ((made.number ≡ task.number) × (new.rules.items ≡ old.rules.items) × (new.all.items ≡ old.all.items)

@@ -9,7 +9,8 @@ use Rattle.psg_explain.specs.declared.refutation.Verdict.{Verdict}
 use Rattle.psg_explain.specs.declared.refutation.Verdict.TheVariants as verdicts
 use Rattle.psg_explain.specs.Equations.{Equation, Derives, IsBinding, IsCircle, IsClash, put_for}
 
--- the columns, rewritten by the equations of these numbers one after the other, each of which has a variable on its left
+-- the columns, rewritten by the equations of these numbers one after the other, each of which has a variable on its
+-- left
 abbrev pub Rewrites : List Equation → List ℕ → List Term → List Term → Type 0
 Rewrites all [] columns made = made ≡ columns
 Rewrites all (n ∷ bindings) columns made =

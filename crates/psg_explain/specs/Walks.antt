@@ -10,7 +10,7 @@ use Rattle.psg_explain.specs.declared.given.Case.{Case}
 use Rattle.psg_explain.specs.Given.{first_cases, next_cases, last_cases}
 
 -- A step: of the node at the path, or of a cell of the list there; the end has as many as the list has elements. A cell
--- is the part of the list from its element on. A step that adds a child is made of so many pairs of rows.
+-- is the part of the list from its element on. A step that adds a child is made of that many pairs of rows.
 pub record At : Type 0 where
   pub path : Path
   pub cell : Option ℕ
@@ -24,7 +24,7 @@ pub record Child : Type 0 where
   pub tree : Fragment
   pub rows : List (List Term)
 
--- What a walk comes to: the rows of the last step, and what is left; or a step without rows, which is the last.
+-- The result of a walk: the rows of the last step, and what is left; or a step without rows, which is the last.
 pub data Walk (X : Type 0) : Type 0 where
   went : (rows : List (List Term)) (left : List X) → Walk X
   ended : (last : At) → Walk X
@@ -58,7 +58,8 @@ module _ (def : Definition) {X : Type 0} (rows_in : X → List (List Term)) (IsO
   -- the last step, where the node is a scope operator
   abbrev pub Closes : Bool → Path → Option ℕ → Fragment → ℕ → List (List Term) → List X → Walk X → Type 0
   Closes true path number f n rows xs w =
-      Takes (record { path = path; cell = number; part = f; step = n + 1; cases = last_cases def f rows; pairs = 0 }) xs w
+      Takes (record { path = path; cell = number; part = f; step = n + 1; cases = last_cases def f rows; pairs = 0 })
+      xs w
   Closes false path number f n rows xs w = w ≡ went rows xs
 
   -- the steps of the node itself after the step n, which has these rows; these children are still to be added
@@ -101,13 +102,13 @@ module _ (def : Definition) {X : Type 0} (rows_in : X → List (List Term)) (IsO
   Follows t children (went rows left) b = b ≡ went_all (children ++ record { tree = t; rows = rows } ∷ []) left
   Follows t children (ended last) b = b ≡ ended_below last
 
-  -- after the element e, which came to v, the elements behind it
+  -- after the element e, whose result was v, the elements after it
   abbrev pub AfterFirst : Fragment → Walk X → (List X → WalkBelow X → Type 0) → WalkBelow X → Type 0
   AfterFirst e (went rows left) Goes b =
       (c : WalkBelow X) × Goes left c × Precedes (record { tree = e; rows = rows }) c b
   AfterFirst e (ended last) Goes b = b ≡ ended_below last
 
-  -- after the children in front of it, which came to a, the child t
+  -- after the children in front of it, whose result was a, the child t
   abbrev pub AfterFront : Fragment → WalkBelow X → (List X → Walk X → Type 0) → WalkBelow X → Type 0
   AfterFront t (went_all children left) Goes b = (v : Walk X) × Goes left v × Follows t children v b
   AfterFront t (ended_below last) Goes b = b ≡ ended_below last

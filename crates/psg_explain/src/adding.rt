@@ -318,7 +318,8 @@ fn add_cell(
 ) -> Result<(), AllocError>
     requires last { HasStage stages.old.items (length stages.old.items - 1) }
     requires element { HasStage stages.old.items element }
-    ensures { OnOk result (AddsCell place.entry.path.now place.entry.cell list stages.old.items stages.new.items element) }
+    ensures { OnOk result (AddsCell place.entry.path.now place.entry.cell list stages.old.items stages.new.items
+        element) }
 {
     let all = stages.as_slice();
     let rest = all.len() - 1;

@@ -29,7 +29,7 @@ pub(crate) fn variable_of(term: &Term) -> Option<Variable>
     }
 }
 
-/// Returns the arguments of the number of both sides, where they have one constructor and so many arguments.
+/// Returns the arguments of the number of both sides, where they have one constructor and that many arguments.
 fn part(equation: &(Term, Term), number: usize) -> Result<Option<(Term, Term)>, AllocError>
     ensures { IfOk result (λ o. MatchOption o ((e : Equation) → IsPart equation.now number e → ⊥)
         (λ e. IsPart equation.now number e)) }
@@ -153,7 +153,7 @@ fn is_clash(equation: &(Term, Term)) -> bool
     }
 }
 
-/// Says whether one term is a variable that stands properly inside the other one.
+/// Says whether one term is a variable that is properly inside the other one.
 fn stands_inside(one: &Term, other: &Term) -> bool
     ensures { IsTrue result ↔ IsInside one.now other.now }
 {
@@ -166,7 +166,7 @@ fn stands_inside(one: &Term, other: &Term) -> bool
     }
 }
 
-/// Says whether a variable on one side stands properly inside the other side.
+/// Says whether a variable on one side is properly inside the other side.
 fn is_circle(equation: &(Term, Term)) -> Result<bool, AllocError>
     ensures { IfOk result (λ b. IsTrue b ↔ IsCircle equation.now) }
 {
@@ -348,7 +348,7 @@ fn clashes(alloc: Global, case: &Case, rules: &[Rule], number: u32) -> Result<bo
     Ok(met)
 }
 
-/// Says whether in the derived equation of the number a variable stands properly inside the other side.
+/// Says whether in the derived equation of the number a variable is properly inside the other side.
 fn circles(alloc: Global, case: &Case, rules: &[Rule], number: u32) -> Result<bool, AllocError>
     ensures { IfOk result (λ b. (rows : List (List Plain))
         → IsTrue b ↔ IsRight rows case.now.given case.now.columns (Circle rules.now number)) }

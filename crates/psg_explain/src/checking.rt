@@ -1,5 +1,6 @@
 //! The check of a refutation.
-ghost use Rattle.std.specs.Prelude.{◌≡◌, ◌↔◌, ◌+◌, ◌*◌, ◌<◌, ◌≤◌, ◌∷◌, [], map, length, option_map, slice_get, take, true};
+ghost use Rattle.std.specs.Prelude.{◌≡◌, ◌↔◌, ◌+◌, ◌*◌, ◌<◌, ◌≤◌, ◌∷◌, [], map, length, option_map, slice_get, take};
+ghost use Rattle.std.specs.Prelude.{true};
 ghost use Rattle.std.specs.Prelude.{IfOk, IsTrue, List, MatchOption, Some, ℕ};
 ghost use Rattle.std.specs.List.{AllByRecursion};
 ghost use Rattle.psg_terms.specs.Canonical.{IsCanonical};
@@ -223,7 +224,7 @@ fn is_at(stage: &Stage, claim: &Claim) -> bool
     claim.step as usize == stage.step
 }
 
-/// Says whether so many pairs of so many rows are as many as this.
+/// Says whether that many pairs of that many rows are as many as this.
 fn are_pairs(lefts: usize, rights: usize, many: usize) -> bool
     ensures { lefts * rights ≡ many → result ≡ true }
 {
@@ -448,9 +449,9 @@ fn is_right_refutation(
     }
 }
 
-/// Says whether the refutation shows that the tree has no completion: whether its claims are those of the steps in their
-/// order, and each verdict is right. It rewrites terms and compares them, and solves no equation. It fails where memory
-/// runs out, and as if out of memory where a term that it derives has more than 2^20 variables and constructors.
+/// Says whether the refutation shows that the tree has no completion: whether its claims are those of the steps in
+/// their order, and each verdict is right. It rewrites terms and compares them, and solves no equation. It fails where
+/// memory runs out, and as if out of memory where a term that it derives has more than 2^20 variables and constructors.
 pub fn check_refutation(
     alloc: Global,
     lang: &Language,

@@ -1,5 +1,6 @@
 //! The relations of the steps of a tree, and the claims on them.
-ghost use Rattle.std.specs.Prelude.{◌≡◌, ◌↔◌, ◌≤◌, ◌+◌, ◌-◌, ◌*◌, ◌^◌, ◌++◌, [], length, IfOk, IsTrue, List, OnOk, Some, ℕ};
+ghost use Rattle.std.specs.Prelude.{◌≡◌, ◌↔◌, ◌≤◌, ◌+◌, ◌-◌, ◌*◌, ◌^◌, ◌++◌, [], length, IfOk, IsTrue, List, OnOk};
+ghost use Rattle.std.specs.Prelude.{Some, ℕ};
 ghost use Rattle.psg_grammar.specs.Fragments.{Fragment};
 ghost use Rattle.psg_grammar.specs.Paths.{node_at};
 ghost use Rattle.psg_grammar.specs.Work.{work_of};

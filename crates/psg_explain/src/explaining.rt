@@ -135,9 +135,9 @@ fn wrong<L: Ledger>(
 }
 
 /// Says why the tree of the note has no completion, by the steps of its first culprit up to the first one without rows;
-/// or by the first key that is declared twice there. It evaluates the culprit's subtree once more, and
-/// each cell of a list twice: once for its steps, and once for the summary that the cell before it needs. It fails where
-/// memory runs out.
+/// or by the first key that is declared twice there. It evaluates the culprit's subtree once more, and each cell of a
+/// list twice: once for its steps, and once for the summary that the cell before it needs. It fails where memory runs
+/// out.
 pub fn explain<L: Ledger>(
     alloc: Global,
     lang: &Language,

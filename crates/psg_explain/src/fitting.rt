@@ -21,7 +21,7 @@ use psg_terms::{Node, Seq, Term};
 use std::alloc::{AllocError, Global};
 
 /// Puts the value for the variable of the number; says whether it has no other one. The variables of a canonical row
-/// come in the order of their numbers.
+/// are in the order of their numbers.
 fn fit_variable(values: &mut Vec<Term>, number: u32, special: &Term) -> Result<bool, AllocError>
     ensures { IfOk result (λ b. (f : Substitution) (known : List PlainVariable) (s : ℕ)
         → IsValued f known values.old.items → IsNumberedFrom 1 (noted known (s, number)) → special.now ≡ f s number

@@ -105,7 +105,7 @@ pub(crate) fn push_all(terms: &mut Vec<Term>, row: &[Term]) -> Result<(), AllocE
     Ok(())
 }
 
-/// Adds the terms of the keys, of which these stand beside the names.
+/// Adds the terms of the keys, which are these beside the names.
 pub(crate) fn push_keyed(
     terms: &mut Vec<Term>,
     names: &[NameCol],
@@ -322,7 +322,7 @@ fn pair_columns(
 }
 
 /// Returns the case of a row of the step before and a row of the child, by their numbers. The right row's variables are
-/// numbered on behind the left's.
+/// numbered on after the left's.
 pub(crate) fn pair_case(
     alloc: Global,
     keys: Keys,

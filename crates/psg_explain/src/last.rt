@@ -31,7 +31,7 @@ struct First {
     reason: Reason,
 }
 
-/// So many of the given equations have a common solution, and so many have none, and why.
+/// That many of the given equations have a common solution, and that many have none, and why.
 #[derive(Drop)]
 struct Span {
     low: usize,
@@ -71,7 +71,8 @@ fn halved(alloc: Global, given: &[(Term, Term)], span: Span) -> Result<Span, All
     }
 }
 
-/// Finds the first given equation with which there is no common solution; there is one. It halves the equations each time.
+/// Finds the first given equation with which there is no common solution; there is one. It halves the equations each
+/// time.
 fn first_failing(alloc: Global, given: &[(Term, Term)]) -> Result<First, AllocError>
     requires { IsReason given.now None → ⊥ }
     ensures { IfOk result (IsFirst given.now) }

@@ -47,8 +47,8 @@ pub fn claims_in_order()
         → IsFormed def f → ClaimTo def path f claims last → AreFirstSteps def path f claims last }
 {}
 
-/// Shows that the claims on the first culprit of a tree end at a step of the culprit itself, and not of a node below it.
-/// The call has no cost.
+/// Shows that the claims on the first culprit of a tree end at a step of the culprit itself, and not of a node below
+/// it. The call has no cost.
 pub fn ends_at_culprit()
     ensures { (def : PlainDefinition) (f : Fragment) (path : List ℕ) (node : Fragment) (claims : List PlainClaim)
         (last : At) → IsSound def

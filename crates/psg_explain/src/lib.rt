@@ -8,9 +8,10 @@
 //! }
 //! ```
 //!
-//! A refutation has, for each step in which the relation of a node is made, the step's rows, and for each pair of rows of
-//! which these are made a verdict: an equation that has no solution, or the row of which all that the pair has are
-//! instances. The last step has no rows. That the verdicts are right is checked by rewriting alone; no equation is solved.
+//! A refutation has, for each step in which the relation of a node is made, the step's rows, and for each pair of rows
+//! of which these are made a verdict: an equation that has no solution, or the row of which all that the pair has are
+//! instances. The last step has no rows. That the verdicts are right is checked by rewriting alone; no equation is
+//! solved.
 #![tactic(auto)]
 
 mod adding;

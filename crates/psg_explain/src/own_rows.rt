@@ -3,7 +3,8 @@ ghost use Rattle.std.specs.Prelude.{◌≡◌, ◌++◌, [], drop, take, IfOk, O
 ghost use Rattle.psg_scope.specs.Headers.{keys as keys_of};
 ghost use Rattle.psg_eval.specs.OwnRows.{name_terms, positions as positions_of, slot_terms};
 ghost use Rattle.psg_explain.specs.Given.{own_equations as given_of, own_subjects as subjects_of};
-ghost use Rattle.psg_explain.specs.Splits.{first_position, item_name, item_position, item_slot, names_left, own_case_of};
+ghost use Rattle.psg_explain.specs.Splits.{first_position, item_name, item_position, item_slot, names_left};
+ghost use Rattle.psg_explain.specs.Splits.{own_case_of};
 ghost use Rattle.psg_explain.specs.Splits.{terms_left};
 
 use crate::given::{Case, Equations, beside, push_all, push_keyed};
@@ -21,7 +22,8 @@ fn add_name(
     names: &[Txt],
     next: usize,
 ) -> Result<usize, AllocError>
-    ensures found { OnOk result (found.new.items ≡ found.old.items ++ first_position space declared (drop next names.now)) }
+    ensures found { OnOk result (found.new.items
+        ≡ found.old.items ++ first_position space declared (drop next names.now)) }
     ensures left { IfOk result (λ n. drop n names.now ≡ drop 1 (drop next names.now)) }
 {
     match names.get(next) {
@@ -146,7 +148,7 @@ fn split_columns(alloc: Global, items: &[Item], terms: &[Term]) -> Result<Column
     Ok(columns)
 }
 
-/// Returns an equation for each position whose key stood before, of these terms.
+/// Returns an equation for each position whose key was before, of these terms.
 fn own_equations(
     alloc: Global,
     positions: &[NameCol],
@@ -167,7 +169,7 @@ fn own_equations(
     Ok(all)
 }
 
-/// Returns the case of an operator's own row: an equation for each position whose key stood before, and the value, the
+/// Returns the case of an operator's own row: an equation for each position whose key was before, and the value, the
 /// values of the slots, and the entities of the keys, those of their first positions.
 pub(crate) fn own_case(
     alloc: Global,

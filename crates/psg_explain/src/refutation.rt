@@ -9,7 +9,7 @@ pub enum Rule {
     Given(u32),
     /// `Part(e, k)`: the arguments number k of both sides of the equation e, whose sides have one constructor.
     Part(u32, u32),
-    /// An equation turned round.
+    /// An equation turned around.
     Flip(u32),
     /// The first equation, in which the variable on the left of the second one is replaced by its right side.
     Replace(u32, u32),
@@ -31,7 +31,7 @@ pub enum Verdict {
         rules: Seq<Rule>,
         number: u32,
     },
-    /// There are none: in the derived equation of the number a variable stands properly inside the other side.
+    /// There are none: in the derived equation of the number a variable is properly inside the other side.
     Circle {
         rules: Seq<Rule>,
         number: u32,
@@ -67,7 +67,7 @@ pub enum Refutation {
 pub enum Reason {
     /// Its sides have different constructors.
     Clash(Term, Term),
-    /// Its left side is a variable that stands properly inside its right side.
+    /// Its left side is a variable that is properly inside its right side.
     Circle(Term, Term),
 }
 

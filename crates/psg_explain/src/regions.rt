@@ -1,5 +1,6 @@
 //! The keys that a region declares.
-ghost use Rattle.std.specs.Prelude.{◌≡◌, ◌++◌, ◌+◌, ◌-◌, ◌<◌, ◌≤◌, ◌^◌, ◌∷◌, [], bytes_eq, drop, false, length, slice_get};
+ghost use Rattle.std.specs.Prelude.{◌≡◌, ◌++◌, ◌+◌, ◌-◌, ◌<◌, ◌≤◌, ◌^◌, ◌∷◌, [], bytes_eq, drop, false, length};
+ghost use Rattle.std.specs.Prelude.{slice_get};
 ghost use Rattle.std.specs.Prelude.{IfOk, List, MatchOption, OnOk, option_copied};
 ghost use Rattle.std.specs.List.{AllByRecursion};
 ghost use Rattle.psg_terms.specs.Names.{has_twice, is_among};
@@ -191,7 +192,7 @@ fn is_this(key: &NameCol, space: u32, name: &str) -> bool
     key.space == space && key.name.as_str() == name
 }
 
-/// Says whether the key stands at one of the places from this one on.
+/// Says whether the key is at one of the places from this one on.
 fn is_there(keys: &[NameCol], from: usize, space: u32, name: &str) -> bool
     requires { from ≤ length keys.now }
     ensures { result ≡ is_among (keys_of (drop from keys.now)) (space ∷ name.now) }
@@ -204,7 +205,7 @@ fn is_there(keys: &[NameCol], from: usize, space: u32, name: &str) -> bool
     false
 }
 
-/// Says whether the key stands at two of the places.
+/// Says whether the key is at two of the places.
 pub(crate) fn is_twice(keys: &[NameCol], space: u32, name: &str) -> bool
     ensures { result ≡ is_twice_among (keys_of keys.now) (space ∷ name.now) }
 {
@@ -217,7 +218,7 @@ pub(crate) fn is_twice(keys: &[NameCol], space: u32, name: &str) -> bool
     false
 }
 
-/// How two keys are ordered: by the bytes of their names, then by their spaces.
+/// Compares two keys: by the bytes of their names, then by their spaces.
 fn order(one: &NameCol, other: &NameCol) -> Ordering
     ensures { result ≡ key_cmp (key_of one.now) (key_of other.now) }
 {
@@ -242,7 +243,7 @@ fn least<'a>(found: Option<&'a NameCol>, key: &'a NameCol) -> &'a NameCol
     }
 }
 
-/// Returns the first of the key that was found and of this one, if this one stands at two of the places.
+/// Returns the first of the key that was found and of this one, if this one is at two of the places.
 fn first_of<'a>(
     keys: &'a [NameCol],
     found: Option<&'a NameCol>,
@@ -258,9 +259,10 @@ fn first_of<'a>(
     found
 }
 
-/// Returns the first key, in the order of keys, that stands at two of the places. It compares each two keys.
+/// Returns the first key, in the order of keys, that is at two of the places. It compares each two keys.
 pub(crate) fn first_twice(keys: &[NameCol]) -> Option<&NameCol>
-    ensures { MatchOption result (has_twice (keys_of keys.now) ≡ false) (λ k. IsFirstTwice (keys_of keys.now) (key_of k.now)) }
+    ensures { MatchOption result (has_twice (keys_of keys.now) ≡ false)
+        (λ k. IsFirstTwice (keys_of keys.now) (key_of k.now)) }
 {
     let mut found: Option<&NameCol> = None;
     for i in 0..keys.len() {

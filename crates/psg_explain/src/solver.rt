@@ -23,7 +23,7 @@ pub(crate) struct Failure {
     pub(crate) reason: Reason,
 }
 
-/// The derived equations, and what solving comes to.
+/// The derived equations, and the result of solving.
 #[derive(Drop)]
 pub(crate) struct Solution {
     pub(crate) derived: Derived,
@@ -56,7 +56,7 @@ pub(crate) struct Bound {
     pub(crate) by: Term,
 }
 
-/// What an equation comes to.
+/// The result of solving an equation.
 #[derive(Drop)]
 pub(crate) enum Found {
     /// It holds, or its parts are put in its place.
@@ -124,7 +124,7 @@ fn add_parts(work: &mut Work, number: u32, left: &[Term], right: &[Term]) -> Res
     Ok(())
 }
 
-/// Returns what an equation comes to whose left side is the variable, and whose right side is another term.
+/// Returns the result of solving an equation whose left side is the variable, and whose right side is another term.
 fn met_left(number: u32, variable: Variable, side: &Term, by: &Term) -> Result<Found, AllocError>
     requires side { side.now ≡ plain_variable variable.sort.0 variable.number }
     requires differ { side.now ≡ by.now → ⊥ }
@@ -147,8 +147,8 @@ fn met_left(number: u32, variable: Variable, side: &Term, by: &Term) -> Result<F
     }))
 }
 
-/// Returns what an equation comes to whose right side is the variable, and whose left side is no variable. Where the
-/// variable is to be replaced, the equation is turned round.
+/// Returns the result of solving an equation whose right side is the variable, and whose left side is no variable.
+/// Where the variable is to be replaced, the equation is turned around.
 fn met_right(
     work: &mut Work,
     number: u32,
@@ -270,8 +270,10 @@ fn put_in_task(
     bound: &Bound,
     task: &Task,
 ) -> Result<Task, AllocError>
-    ensures equation { IfOk result (λ t. t.equation ≡ rewritten (variable_in bound.now.variable) bound.now.by task.now.equation) }
-    ensures derives { IfOk result (λ t. (given : List Equation) → IsPut given derived.old derived.new bound.now task.now t) }
+    ensures equation { IfOk result (λ t. t.equation
+        ≡ rewritten (variable_in bound.now.variable) bound.now.by task.now.equation) }
+    ensures derives { IfOk result (λ t. (given : List Equation)
+        → IsPut given derived.old derived.new bound.now task.now t) }
 {
     let equation = &task.equation;
     bounded(&equation.0)?;
@@ -348,8 +350,8 @@ fn replace(alloc: Global, work: Work, bound: &Bound) -> Result<Work, AllocError>
     })
 }
 
-/// Solves the equations from the front, and derives each one on the way. It looks at each equation that is left once for
-/// each variable that is replaced.
+/// Solves the equations from the front, and derives each one on the way. It looks at each equation that is left once
+/// for each variable that is replaced.
 pub(crate) fn derive(alloc: Global, given: &[(Term, Term)]) -> Result<Solution, AllocError>
     ensures { IfOk result (IsSolution given.now) }
 {

@@ -5,8 +5,8 @@
 //! ```
 //!
 //! A *chosen path* leads to a node, or to the `...` of an unfinished list: that is the path of the list with the number
-//! of its elements as the last step. So the order of paths is the order of the text, and a new element that is put at the
-//! `...` has its path.
+//! of its elements as the last step. So the order of paths is the order of the text, and a new element that is put at
+//! the `...` has its path.
 #![tactic(auto)]
 
 pub mod laws;

@@ -30,7 +30,7 @@ fn below(alloc: Global, path: &[u32], child: usize) -> Result<Path, AllocError>
     longer(alloc, path, step)
 }
 
-/// Adds the path of the `...` of a list with so many elements, if it is unfinished.
+/// Adds the path of the `...` of a list with that many elements, if it is unfinished.
 fn push_dots(
     alloc: Global,
     path: &[u32],
@@ -173,9 +173,9 @@ fn push_opens(
     }
 }
 
-/// Lists the open places of a program in the order of the text: the paths of its placeholders, and those of the `...` of
-/// its unfinished lists. It walks once over the tree, and copies the path of each node. It fails where memory runs out,
-/// or where 32 bits do not count the children of a node.
+/// Lists the open places of a program in the order of the text: the paths of its placeholders, and those of the `...`
+/// of its unfinished lists. It walks once over the tree, and copies the path of each node. It fails where memory runs
+/// out, or where 32 bits do not count the children of a node.
 pub fn opens(alloc: Global, tree: &Tree) -> Result<Vec<Path>, AllocError>
     ensures { IfOk result (λ found. found.items ≡ listed.opens tree.now) }
 {
@@ -259,8 +259,8 @@ fn first_of<'a>(near: Option<&'a Path>, far: Option<&'a Path>, path: &'a Path) -
     }
 }
 
-/// Returns the path of the next open place after the path in the order of the text, else of the first one, else the path.
-/// It walks once over the tree, and fails as `opens` does.
+/// Returns the path of the next open place after the path in the order of the text, else of the first one, else the
+/// path. It walks once over the tree, and fails as `opens` does.
 pub fn next_open(alloc: Global, tree: &Tree, path: &Path) -> Result<Path, AllocError>
     ensures { IfOk result (λ led. led ≡ listed.next_open tree.now path.now) }
 {
@@ -273,8 +273,8 @@ pub fn next_open(alloc: Global, tree: &Tree, path: &Path) -> Result<Path, AllocE
     Ok(led)
 }
 
-/// Returns the path of the last open place before the path in the order of the text, else of the last one, else the path.
-/// It walks once over the tree, and fails as `opens` does.
+/// Returns the path of the last open place before the path in the order of the text, else of the last one, else the
+/// path. It walks once over the tree, and fails as `opens` does.
 pub fn previous_open(alloc: Global, tree: &Tree, path: &Path) -> Result<Path, AllocError>
     ensures { IfOk result (λ led. led ≡ listed.previous_open tree.now path.now) }
 {
@@ -287,8 +287,8 @@ pub fn previous_open(alloc: Global, tree: &Tree, path: &Path) -> Result<Path, Al
     Ok(led)
 }
 
-/// Returns the path of the first open place at the path or below it, else of the next one after it, else of the first one,
-/// else the path. It walks once over the tree, and fails as `opens` does.
+/// Returns the path of the first open place at the path or below it, else of the next one after it, else of the first
+/// one, else the path. It walks once over the tree, and fails as `opens` does.
 pub fn open_below(alloc: Global, tree: &Tree, path: &Path) -> Result<Path, AllocError>
     ensures { IfOk result (λ led. led ≡ listed.open_below tree.now path.now) }
 {

@@ -14,7 +14,7 @@ pub(crate) fn copied(alloc: Global, path: &Path) -> Result<Path, AllocError>
     Path::of(alloc, path.steps())
 }
 
-/// Says whether the node is an unfinished list with so many elements.
+/// Says whether the node is an unfinished list with that many elements.
 fn is_end(node: &Tree, number: u32) -> bool
     ensures { result ≡ moves.is_end node.now number }
 {
@@ -142,9 +142,9 @@ fn step_after(step: u32) -> Result<u32, AllocError>
     }
 }
 
-/// Returns the path of the next sibling, after the last element of an unfinished list that of its `...`; the path itself
-/// where there is none. It walks along the path, and fails where memory runs out, or at an element whose number has no
-/// successor in 32 bits.
+/// Returns the path of the next sibling, after the last element of an unfinished list that of its `...`; the path
+/// itself where there is none. It walks along the path, and fails where memory runs out, or at an element whose number
+/// has no successor in 32 bits.
 pub fn to_next(alloc: Global, tree: &Tree, path: &Path) -> Result<Path, AllocError>
     ensures { IfOk result (λ led. led ≡ moves.to_next tree.now path.now) }
 {

@@ -33,7 +33,7 @@ fn number(word: &str) -> Option<usize> {
     }
 }
 
-/// The numbers that three words are. There is at least one name to use.
+/// Returns the numbers that three words are. There is at least one name to use.
 fn asked(words: &[String]) -> Option<Request>
     ensures { IfSome result (λ c. 0 < c.names) }
 {

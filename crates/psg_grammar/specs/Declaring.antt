@@ -46,7 +46,7 @@ abbrev pub element_declares : (Kind → Bool) → Option ListKind → Bool
 element_declares test None = false
 element_declares test (Some l) = test (kinds.Phylum l.element)
 
--- whether the kind declares in the space, where the test says which kinds below it do
+-- whether the kind declares in the space; the test says which kinds below it do
 abbrev pub declares_by : Definition → ℕ → (Kind → Bool) → Kind → Bool
 declares_by def space test (kinds.Phylum p) = any_operator space test p def.operators
 declares_by def space test (kinds.List l) = element_declares test (slice_get def.lists l)

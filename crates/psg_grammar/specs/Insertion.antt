@@ -18,7 +18,7 @@ abbrev pub may_be_unfinished : Option ListKind → Bool
 may_be_unfinished None = false
 may_be_unfinished (Some k) = k.unfinished
 
--- the new tree of a kind: a placeholder, or an empty list, unfinished where the kind allows it
+-- the new tree of a kind: a placeholder, or an empty list, unfinished if the kind allows it
 abbrev pub blank : Definition → Kind → Fragment
 blank def (kinds.Phylum p) = hole p
 blank def (kinds.List l) = ending l (may_be_unfinished (slice_get def.lists l))

@@ -6,8 +6,8 @@ use Rattle.std.specs.declared.cmp.Ordering.{Ordering}
 use Rattle.std.specs.declared.cmp.Ordering.TheVariants.{Less, Equal, Greater}
 use Rattle.psg_terms.specs.Names.{Name, is_among}
 
--- A key is one list, the number of its space in front of the bytes of its name, so what is said of names serves keys
--- too.
+-- A key is a list: the number of its space, and after it the bytes of its name. So what is said of names is true of
+-- keys too.
 abbrev pub Key : Type 0
 Key = List ℕ
 
@@ -21,18 +21,18 @@ abbrev pub name_in : Key → Name
 name_in [] = []
 name_in (s ∷ n) = n
 
--- the first order, and where it says equal the second
+-- the first order, and the second one if the first says equal
 abbrev pub then_by : Ordering → Ordering → Ordering
 then_by Less second = Less
 then_by Equal second = second
 then_by Greater second = Greater
 
--- By the bytes of the names and, for one name, by the number of the space. The order of the lists themselves would be
--- another one: it would put all names of one space together.
+-- Keys are ordered by the bytes of their names, and those of one name by the numbers of their spaces. The order of the
+-- lists themselves is another one: it has all names of one space together.
 abbrev pub key_cmp : Key → Key → Ordering
 key_cmp n m = then_by (slice_cmp nat_cmp (name_in n) (name_in m)) (nat_cmp (space_of n) (space_of m))
 
--- the key n put into an ascending list that begins with m, by their order; where they are equal it is not put again
+-- the key n put into an ascending list that begins with m, by their order; if they are equal, it is not put again
 abbrev pub placed : Ordering → Key → Key → List Key → List Key → List Key
 placed Less n m rest more = n ∷ m ∷ rest
 placed Equal n m rest more = m ∷ rest

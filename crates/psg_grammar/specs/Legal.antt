@@ -22,7 +22,7 @@ abbrev pub Entities : Type 0
 Entities = Key → Term
 
 -- Each entity is a term without variables, of the sort of its key's space. A finite map would say the same: every sort
--- has such a term, and where there is no space there are no keys.
+-- has such a term, and if there is no space, there are no keys.
 pub record AreEntities (def : Definition) (g : Entities) : Type 0 where
   pub ground : (n : Key) → IsGround (g n)
   pub sorted : (n : Key) (e : Space) → slice_get def.spaces (space_of n) ≡ Some e → HasSort def.signature (g n) e.sort.0
@@ -38,11 +38,11 @@ pub record IsOfRow (sig : Signature) (row : Row) (value : Term) (columns : List 
 abbrev pub IsOfTerm : Signature → Term → Term → Type 0
 IsOfTerm sig term value = (terms : Substitution) × IsGrounding sig terms × (value ≡ substitute terms term)
 
--- outside the keys declared inside, the entities are the same
+-- keys that are not among those declared inside have the same entities
 abbrev pub AgreeOutside : List Key → Entities → Entities → Type 0
 AgreeOutside declared g inner = (n : Key) → is_among declared n ≡ false → inner n ≡ g n
 
--- what may be said of the entities inside a node: another judgement at a scope operator, the same elsewhere
+-- what the entities inside a node may be: at a scope operator those that agree, elsewhere the same
 abbrev pub Within : Bool → (Entities → Entities → Type 0) → Entities → Entities → Type 0
 Within true Agrees g inner = Agrees g inner
 Within false Agrees g inner = inner ≡ g

@@ -29,8 +29,9 @@ Choice (with_text f t) = Choice f
 Choice anything = Unit {0}
 Choice (observed f) = Choice f
 
--- Outside the keys declared inside, the entities are the same in each space in which the region isn't unfinished. In
--- the others a key may still be declared there, so a use of it must not be linked to a declaration further out.
+-- Keys that are not declared inside have the same entities, in each space in which the region isn't unfinished. In the
+-- other spaces a key may still be declared in the region, so a use of it must not be linked to a declaration further
+-- out.
 abbrev pub AgreeOpen : (ℕ → Bool) → List Key → Entities → Entities → Type 0
 AgreeOpen unfinished declared g inner = (n : Key) → unfinished (space_of n) ≡ false → is_among declared n ≡ false
     → inner n ≡ g n

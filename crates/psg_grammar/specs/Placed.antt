@@ -13,8 +13,8 @@ use Rattle.psg_grammar.specs.Lookups.{part_items}
 use Rattle.psg_grammar.specs.Declaring.{HasHoles}
 use Rattle.psg_grammar.specs.WellFormed.{IsListEnd}
 
--- The tree is of the kind, where parts of these items still follow. The places with any value are of the kinds that
--- places has in front of left. Placeholders and unfinished ends are only where they are allowed.
+-- The tree is of the kind, and parts of these items still follow. The places with any value are of the kinds that
+-- places has in front of left. There are placeholders and unfinished ends only if they are allowed.
 module _ (def : Definition) (Allowed : Type 0) where
   abbrev pub FitsPlaces : Fragment → List Item → Kind → List Kind → List Kind → Type 0
   FitsPlaces (hole p) more kind places left = Allowed × (more ≡ []) × (kind ≡ kinds.Phylum p) × (places ≡ left)

@@ -66,7 +66,7 @@ abbrev pub names_of : Definition → Fragment → List Key
 names_of def f = in_order (passing (is_scope def f) (λ s. unfinished_inside def s f) (declared_inside def f)
     (names_inside def f))
 
--- a scope operator declares no key twice; of another node this says nothing
+-- if the node is a scope operator, no key is declared twice
 abbrev pub AreDistinct : Bool → List Key → Type 0
 AreDistinct scope names = scope ≡ true → has_twice names ≡ false
 

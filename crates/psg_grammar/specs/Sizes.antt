@@ -29,7 +29,7 @@ depth_of (with_text f t) = depth_of f
 depth_of anything = 1
 depth_of (observed f) = depth_of f
 
--- how many elements the longest list has, 0 where there is none
+-- how many elements the longest list has, 0 if there is none
 abbrev pub longest_of : Fragment → ℕ
 longest_of (hole p) = 0
 longest_of (ending l u) = 0

@@ -33,7 +33,7 @@ bare (with_text f t) = with_text (bare f) t
 bare anything = anything
 bare (observed f) = observed (bare f)
 
--- Where a node of a tree is replaced: at its path and below it the new node's are found, above it the nodes with the
+-- A node of a tree is replaced. At its path and below it the new node's nodes are found, above it the nodes with the
 -- change made inside and all else as it was, and beside it what was there before.
 pub record ChangesInPlace (f : Fragment) (path : Path) (new : Fragment) : Type 0 where
   pub here : node_at (replaced path new f) path ≡ Some new

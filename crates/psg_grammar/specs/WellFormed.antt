@@ -39,16 +39,16 @@ fixed_words def = operator_words def.operators ++ separators def.lists
 abbrev pub IsName : Definition → Name → Type 0
 IsName def n = IsFreeWord (fixed_words def) n
 
--- an unfinished end is only where the kind of the list allows it
+-- the end of a list is unfinished only if the kind of the list allows it
 abbrev pub IsListEnd : Definition → ℕ → Bool → Type 0
 IsListEnd def l u = (k : ListKind) × (slice_get def.lists l ≡ Some k) × (u ≡ true → k.unfinished ≡ true)
 
--- a list goes on with a list, whose value nobody observes
+-- a list goes on with a list, whose value is not observed
 abbrev pub IsUnobserved : Fragment → Type 0
 IsUnobserved (observed f) = ⊥
 IsUnobserved _ = Unit {0}
 
--- Fits f more kind: the tree is of the kind, where parts of these items still follow.
+-- Fits f more kind: the tree is of the kind, and parts of the items in more still follow.
 module _ (def : Definition) where
   abbrev pub Fits : Fragment → List Item → Kind → Type 0
   Fits (hole p) more kind = (more ≡ []) × (kind ≡ kinds.Phylum p) × (p < length def.phyla)

@@ -90,7 +90,7 @@ with_line mode text f = record f { mode = mode; lines = with_put text f.lines; m
 abbrev pub in_mode : Mode → Face → Face
 in_mode mode f = with_line mode [] f
 
--- the face with which an editor begins on a screen of so many rows and columns
+-- the face with which an editor begins on a screen of that many rows and columns
 abbrev pub at_first : ℕ → ℕ → Face
 at_first rows cols = record {
   rows = rows;

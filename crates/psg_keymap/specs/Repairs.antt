@@ -58,7 +58,7 @@ abbrev pub IsBlamed : Definition → Fragment → Option Blamed → Type 0
 IsBlamed def f None = IsUnknown def f
 IsBlamed def f (Some found) = IsFound (IsCompletable def) def f found
 
--- The note of the repaired program with so many blamed places. There is none where these are a hundred, or where it
+-- The note of the repaired program with that many blamed places. There is none where these are a hundred, or where it
 -- passes a limit.
 abbrev pub IsNoteIn : Definition → ℕ → Fragment → Option Annotated → Type 0
 IsNoteIn def blamed f None =

@@ -12,7 +12,7 @@ use Rattle.psg_keymap.specs.Table.{by_place_of, count_of, list_above}
 abbrev pub spot : Path → Option ℕ → Option Spot
 spot target place = Some (record { target = target; place = place })
 
--- before the chosen place of a list, or so many places after it
+-- before the chosen place of a list, or that many places after it
 abbrev pub spot_beside : Fragment → ℕ → Path → Option Spot
 spot_beside tree more path = by_place_of (list_above tree path) (λ list place. spot list (Some (place + more))) None
 

@@ -103,12 +103,12 @@ saving f path = cond (is_dots f path) None (stays (commands.Save it (At path)))
 abbrev pub pasted_at : Path → Option ℕ → Option Due
 pasted_at path place = grows (with_place path place) (commands.Paste (At path) place it)
 
--- so many places after the path's own in its list, else in place of the node
+-- that many places after the path's own in its list, else in place of the node
 abbrev pub pasted_beside : Fragment → Path → ℕ → Option Due
 pasted_beside f path more =
     by_place_of (list_above f path) (λ list place. pasted_at list (Some (place + more))) (pasted_at path None)
 
--- in place of an empty list, else at the end of one that has so many elements
+-- in place of an empty list, else at the end of one that has that many elements
 abbrev pub pasted_into : Path → ℕ → Option Due
 pasted_into path count = cond (count == 0) (pasted_at path None) (pasted_at path (Some count))
 

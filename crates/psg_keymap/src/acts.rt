@@ -230,7 +230,7 @@ fn pasted_at(alloc: Global, path: &Path, place: Option<u32>) -> Result<Option<Du
     Ok(grows(grown, Command::Paste { at, place, name }))
 }
 
-/// Returns `paste` so many places after the path's own in its list, else in place of the node.
+/// Returns `paste` that many places after the path's own in its list, else in place of the node.
 fn pasted_beside(
     alloc: Global,
     tree: &Tree,
@@ -253,7 +253,7 @@ fn pasted_beside(
     }
 }
 
-/// Returns `paste` in place of an empty list, or at the end of one that has so many elements.
+/// Returns `paste` in place of an empty list, or at the end of one that has that many elements.
 fn pasted_into(alloc: Global, path: &Path, count: u32) -> Result<Option<Due>, AllocError>
     ensures { IfOk result (λ due. due ≡ table.pasted_into path.now count) }
 {

@@ -49,6 +49,7 @@ pub enum Why {
 /// What the last line of the screen says.
 #[derive(Drop)]
 pub enum Message {
+    /// Nothing.
     Quiet,
     /// The last command was refused, with this number.
     Refused(u8),
@@ -75,10 +76,13 @@ pub enum Message {
 /// What the editor on the screen keeps beside the program.
 #[derive(Drop)]
 pub struct Face {
+    /// The rows of the screen.
     pub rows: u32,
+    /// The columns of the screen.
     pub cols: u32,
     /// The way to the chosen node, or to the `...` of an unfinished list.
     pub chosen: Path,
+    /// What the keys act on.
     pub mode: Mode,
     /// The line of text with the earlier ones. It is empty where none is open.
     pub lines: Lines,
@@ -88,11 +92,13 @@ pub struct Face {
     pub pick: usize,
     /// Where an operator is put: at the path, which is a placeholder's, or before a place of the list there.
     pub target: Path,
+    /// The place of the list before which the operator is put, if it is put into a list.
     pub place: Option<u32>,
     /// The operator that was picked.
     pub operator: Option<Txt>,
     /// Its names and literals that were typed already, and how many these are.
     pub args: Txt,
+    /// How many names and literals of it were typed already.
     pub leaf: usize,
     /// The lines of the page that is shown.
     pub page: Vec<String>,
@@ -102,13 +108,14 @@ pub struct Face {
     pub top: u32,
     /// The number of the first column that is shown, from 0.
     pub left: u32,
+    /// What the last line of the screen says.
     pub message: Message,
     /// The editor is at its end.
     pub ended: bool,
 }
 
 impl Face {
-    /// Makes the face with which an editor begins on a screen of so many rows and columns: the top of the program is
+    /// Makes the face with which an editor begins on a screen of that many rows and columns: the top of the program is
     /// chosen. It fails where memory runs out.
     pub fn new(alloc: Global, rows: u32, cols: u32) -> Result<Face, AllocError>
         ensures { IfOk result (λ face. face_of face ≡ faces.at_first rows cols) }

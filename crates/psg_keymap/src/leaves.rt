@@ -19,7 +19,9 @@ pub enum Leaf {
     Name,
     /// A name that it declares.
     NewName,
+    /// A number.
     Number,
+    /// A text.
     Text,
 }
 

@@ -87,7 +87,7 @@ pub fn is_unfinished(node: &Tree) -> bool
     }
 }
 
-/// Returns the number so many further, where 32 bits hold it; else the call fails as if out of memory.
+/// Returns the sum of the two numbers, where 32 bits hold it; else the call fails as if out of memory.
 pub fn further(number: u32, more: u32) -> Result<u32, AllocError>
     requires { more ≤ 1 }
     ensures { IfOk result (λ sum. sum ≡ number + more) }

@@ -100,7 +100,9 @@ pub fn bytes_at(tree: &Tree, spans: &[Span], path: &Path) -> Option<(usize, usiz
 /// A text that is put before a byte.
 #[derive(Drop)]
 pub struct Range {
+    /// The byte, by its number from 0.
     pub byte: u32,
+    /// The text.
     pub text: Txt,
 }
 

@@ -29,7 +29,9 @@ use std::sync::ledger::Ledger;
 /// places are blamed, or where it passes a limit.
 #[derive(Drop)]
 pub struct Repair {
+    /// The blamed places.
     pub places: Vec<Place>,
+    /// The note of the repaired program, if it is known.
     pub note: Option<Note>,
 }
 
@@ -261,7 +263,7 @@ fn is_below(number: u32, many: usize, path: &[u32], other: &[u32]) -> bool
     (number as usize) < many && path == other
 }
 
-/// Says whether the path `at` leads to one of so many first elements of the list at the path.
+/// Says whether the path `at` leads to an element of the list at the path, one of that many at its front.
 fn goes_before(many: usize, path: &[u32], at: &[u32]) -> bool
     ensures { result ≡ ways.goes_before many path.now at.now }
 {
@@ -271,7 +273,7 @@ fn goes_before(many: usize, path: &[u32], at: &[u32]) -> bool
     }
 }
 
-/// Says whether the place is one of so many first elements of the list at the path.
+/// Says whether the place is an element of the list at the path, one of that many at its front.
 fn is_earlier(path: &[u32], many: usize, place: &Place) -> bool
     ensures { result ≡ ways.is_earlier path.now many place.now }
 {
@@ -291,7 +293,7 @@ fn one_if(so: bool) -> usize
     if so { 1 } else { 0 }
 }
 
-/// Counts the blamed places among so many first elements of the list at the path.
+/// Counts the blamed places among that many elements at the front of the list at the path.
 fn earlier(blamed: &[Place], path: &[u32], many: usize) -> usize
     ensures { result ≡ ways.earlier blamed.now path.now many }
 {
@@ -315,9 +317,9 @@ fn less(step: u32, much: usize) -> u32
     }
 }
 
-/// Returns the place of the list at the path in the repaired program before which is put what is put before this
-/// place in the program: it is less by the elements before it that are blamed, and so left out.
-/// `psg_places::path_there` tells where the list is. It passes the places once.
+/// Returns the place of the list at the path in the repaired program before which is put what is put before this place
+/// in the program: it is less by the elements before it that are blamed, and so left out. `psg_places::path_there` says
+/// where the list is. It passes the places once.
 pub fn place_in(blamed: &[Place], list: &Path, place: u32) -> u32
     ensures { result ≡ repaired.place_in blamed.now list.now place }
 {

@@ -14,7 +14,9 @@ use std::alloc::{AllocError, Global};
 /// Where an operator is put: in place of the placeholder at the path, or before a place of the list there.
 #[derive(Drop)]
 pub struct Spot {
+    /// The path of the placeholder, or of the list.
     pub target: Path,
+    /// The place of the list, if it is one.
     pub place: Option<u32>,
 }
 
@@ -103,7 +105,7 @@ fn spot_of(alloc: Global, chosen: &Path, node: &Tree) -> Result<Option<Spot>, Al
     Ok(None)
 }
 
-/// Returns the spot before the chosen place of a list, or so many places further on.
+/// Returns the spot before the chosen place of a list, or that many places further on.
 fn spot_beside(
     alloc: Global,
     tree: &Tree,

@@ -22,15 +22,20 @@ use std::alloc::{AllocError, Global};
 /// A command, and the path of what it puts into the program, if it puts something.
 #[derive(Drop)]
 pub struct Due {
+    /// The command.
     pub command: Command,
+    /// The path of what it puts into the program.
     pub grown: Option<Path>,
 }
 
 /// What a key is looked up in: the language, the program and its text.
 #[derive(Clone, Copy)]
 pub struct Seen<'a> {
+    /// The language.
     pub language: &'a Language,
+    /// The program.
     pub tree: &'a Tree,
+    /// The text of the program, and where its nodes are.
     pub printed: &'a Printed,
 }
 

@@ -9,6 +9,7 @@ use psg_grammar::Definition;
 /// A definition, and in which spaces its phyla declare.
 #[derive(Clone, Copy)]
 pub struct Known<'a> {
+    /// The definition.
     pub definition: &'a Definition,
     /// For each phylum the spaces in which it declares.
     pub spaces: &'a [Vec<u32>],

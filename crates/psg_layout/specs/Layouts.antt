@@ -46,7 +46,7 @@ pub record SpellsRule (text : List ℕ) (rule : Rule) : Type 0 where
   pub written : IsWrittenAs rule text
 
 -- What a line is tested for, in this order, with the codes: that it has a form, names an operator, names an item of it
--- and stands there for the first time.
+-- and is there for the first time.
 pub data Test : Type 0 where
   a_form : Test
   an_operator : Test

@@ -34,8 +34,8 @@ spaces_before (c ∷ cs) = cond (c == 32) (1 + spaces_before cs) 0
 -- ---- what is written so far
 
 -- A page is what is written so far: the row before, its tokens with their gaps, and, where the next token is to begin a
--- line, how many spaces are in front of it. A break is asked for before its token comes, since marks and brackets may
--- be between.
+-- line, how many spaces are in front of it. A break is asked for before its token is written, since marks and brackets
+-- may be between.
 pub record Page : Type 0 where
   pub before : List Piece
   pub puts : List Put

@@ -1,5 +1,5 @@
 -- What the program keeps of what it writes: a gap by its form, the end of a text by numbers, the marks after a row, and
--- a sheet, which is a page with the place of a first token. For each: what it stands for, and what its steps do.
+-- a sheet, which is a page with the place of a first token. For each: what it represents, and what its steps do.
 use Rattle.std.specs.Prelude.{ℕ, ◌≡◌, ◌+◌, ◌-◌, ◌*◌, ◌==◌, ◌&&◌, not, true, false, cond, List, [], ◌∷◌, ◌++◌, length}
 use Rattle.std.specs.Prelude.{replicate, count_by, slice_get, Option, Some, None, string_bytes, chars, IsUtf8}
 use Rattle.std.specs.List.{AllByRecursion, list_any}
@@ -38,8 +38,8 @@ gap_of (c ∷ cs) =
 abbrev pub feeds_in : List ℕ → ℕ
 feeds_in cs = count_by (λ c. c == 10) cs
 
--- The end of the text of these characters. Where the last line begins with so many spaces and goes on, it has so many
--- in front whatever is put after it.
+-- The end of the text of these characters. Where the last line begins with that many spaces and goes on, it has that
+-- many in front whatever is put after it.
 pub record IsEnd (end : LineEnd) (cs : List ℕ) : Type 0 where
   pub feeds : end.feeds ≡ feeds_in cs
   pub columns : end.columns ≡ columns (last_line cs)

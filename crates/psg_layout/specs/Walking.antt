@@ -1,6 +1,7 @@
 -- What the walk over a tree has made, and what each of its steps makes of it.
 use Rattle.std.specs.Prelude.{ℕ, ◌≡◌, ◌≤◌, ◌+◌, ◌-◌, ◌==◌, ◌&&◌, not, nat_le, Bool, true, false, cond, List, [], ◌∷◌}
-use Rattle.std.specs.Prelude.{◌++◌, length, map, take, drop, unwrap_or, slice_get, slice_set, slice_index_or, slice_range}
+use Rattle.std.specs.Prelude.{◌++◌, length, map, take, drop, unwrap_or, slice_get, slice_set, slice_index_or}
+use Rattle.std.specs.Prelude.{slice_range}
 use Rattle.std.specs.Prelude.{Option, Some, None, is_some, decimal}
 use Rattle.std.specs.Str.{IsCharBoundary}
 use Rattle.std.specs.Option.{option_or}
@@ -33,7 +34,8 @@ use Rattle.psg_layout.specs.declared.deciding.Plan.{Plan}
 use Rattle.psg_layout.specs.Laws.{own_text}
 use Rattle.psg_layout.specs.Pages.{Page, chars_in, columns, gap_by, has_feed, last_line, spaces_before}
 use Rattle.psg_layout.specs.PutSpans.{first_gap}
-use Rattle.psg_layout.specs.Sheets.{AreUtf8, after_gap, Copy, extents, feeds_in, gap_bytes, Ink, new_ink, ink_ask, ink_copy}
+use Rattle.psg_layout.specs.Sheets.{AreUtf8, after_gap, Copy, extents, feeds_in, gap_bytes, Ink, new_ink, ink_ask}
+use Rattle.psg_layout.specs.Sheets.{ink_copy}
 use Rattle.psg_layout.specs.Sheets.{ink_mark, ink_row, ink_token, IsInk, IsOwn, marks_of, own_chars}
 use Rattle.psg_layout.specs.Arranged.{Mode, is_break, is_flat, is_group, next_number}
 use Rattle.psg_layout.specs.Looked.{AreRulesOf}
@@ -89,7 +91,7 @@ opened w = record {
   place = w.place + 1;
 }
 
--- a node is ended where the text ends, with its first token if it has one; there are so many nodes in it
+-- a node is ended where the text ends, with its first token if it has one; there are that many nodes in it
 abbrev pub ended : Option Begin → Page → ℕ → Node → Node
 ended None p count n = record {
   span = record { path = n.span.path; start = n.span.start; end = length (text_in p.puts) };
@@ -108,8 +110,8 @@ ended (Some b) p count n = record {
   count = count;
 }
 
--- The node that is listed there is ended, which was begun when so many nodes were written. The first token of the node
--- around it is its own one, unless another one is known.
+-- The node that is listed there is ended, which was begun when that many nodes were written. The first token of the
+-- node around it is its own one, unless another one is known.
 abbrev pub closed : ℕ → ℕ → Option Begin → Walk → Walk
 closed listed place outer w = record {
   ink = record { page = w.ink.page; first = option_or outer w.ink.first };
@@ -148,7 +150,7 @@ chosen b (Some c) = cond b (Some c) None
 
 -- ---- operators
 
--- A node comes, in a flat group or not, as the node of this place; or the parts of a node are written in its mode.
+-- A node is next, in a flat group or not, as the node of this place; or the parts of a node are written in its mode.
 pub data Way : Type 0 where
   comes : (flat : Bool) (place : ℕ) → Way
   within : (mode : Mode) → Way
@@ -199,7 +201,7 @@ module _ (layout : Layout) where
         (cond (is_group layout o && fits_in cols (line_ahead k f) f.width) None
         (Some (spaces_before (line_ahead k f) + 2)))
 
-    -- a node that comes is copied where it is a group that fits, and not in a flat group
+    -- a node that is next is copied if it is a group that fits, and not in a flat group
     abbrev pub is_copied : Bool → Ink → Flat → Option ℕ → Bool
     is_copied flat k f o = not flat && (is_own f && (is_group layout o && fits_in cols (line_ahead k f) f.width))
 
@@ -230,11 +232,11 @@ module _ (def : Definition) (layout : Layout) (cols : ℕ) (flats : List Flat) (
   abbrev pub leaf_put : Mode → Option ℕ → ℕ → List ℕ → Walk → Walk
   leaf_put mode o k t w = with_ink w (ink_token (ink_at layout mode o k w.ink) t)
 
-  -- what is copied of a node of an operator that comes
+  -- what is copied of a node of an operator that is next
   abbrev pub copy_of : Bool → Walk → Option ℕ → Option Copy
   copy_of flat w o = chosen (is_copied layout cols flat w.ink (flat_in flats w.place) o) (slice_get copies w.place)
 
-  -- the node that comes is copied, or the walk over it is the other one
+  -- the node that is next is copied, or the walk over it is the other one
   abbrev pub node_or : Bool → Walk → Fragment → Walk → Walk
   node_or flat w t v = or_copied (copy_of flat w (top_operator t)) (gap_bytes (flat_in flats w.place).lead) w v
 
@@ -277,7 +279,7 @@ module _ (def : Definition) (layout : Layout) (cols : ℕ) (flats : List Flat) (
   below way n w anything = w
   below way n w (observed f) = below way n w f
 
-  -- the walk over a node that is not copied, over one that comes, and over the child of a number
+  -- the walk over a node that is not copied, over one that is next, and over the child of a number
   abbrev pub met_walk : Bool → Walk → Fragment → Walk
   met_walk flat w t = closed (length w.nodes) w.place w.ink.first (below (comes flat w.place) 0 (opened w) t)
 

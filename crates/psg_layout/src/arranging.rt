@@ -47,7 +47,8 @@ fn write_both(
         ≡ text_in (arranged_puts definition.now layout.now cols tree.now)) }
     ensures tokens { IfOk result (λ m. m.tokens.items
         ≡ extents 0 (arranged_puts definition.now layout.now cols tree.now)) }
-    ensures spans { IfOk result (λ m. map (span_by (arranged_puts definition.now layout.now cols tree.now)) m.nodes.items
+    ensures spans { IfOk result (λ m. map (span_by (arranged_puts definition.now layout.now cols tree.now))
+        m.nodes.items
         ≡ (arranged_in definition.now layout.now cols tree.now).spans) }
 {
     let rules = Rules::of(alloc, layout)?;
@@ -114,8 +115,8 @@ pub fn arrange(
     Ok(Printed { text, spans })
 }
 
-/// Arranges the tree for the columns, as `arrange` does, and returns its text alone. The cost is linear in the text and in
-/// the plain text.
+/// Arranges the tree for the columns, as `arrange` does, and returns its text alone. The cost is linear in the text and
+/// in the plain text.
 pub fn arranged_text(
     alloc: Global,
     definition: &Definition,

@@ -7,7 +7,8 @@ ghost use Rattle.psg_layout.specs.Looked.{AreRulesOf};
 ghost use Rattle.psg_layout.specs.Pages.{last_line};
 ghost use Rattle.psg_layout.specs.Sheets.{Copy, Ink, IsEnd, IsInk, gap_bytes};
 ghost use Rattle.psg_layout.specs.Walking as walking;
-ghost use Rattle.psg_layout.specs.Walking.{CopiesAs, FindsOwn, HasOwn, IsCopy, IsKnown, Known, Walk, copy_by, decided_by};
+ghost use Rattle.psg_layout.specs.Walking.{CopiesAs, FindsOwn, HasOwn, IsCopy, IsKnown, Known, Walk, copy_by};
+ghost use Rattle.psg_layout.specs.Walking.{decided_by};
 ghost use Rattle.psg_layout.specs.Walking.{fits_in, flat_in, flats_by};
 
 use crate::gap::sum;
@@ -104,7 +105,7 @@ fn op_of(tree: &Tree) -> Option<u32>
     }
 }
 
-/// Returns the tokens of a node of the plain text that has so many columns.
+/// Returns the tokens of a node of the plain text that has that many columns.
 fn own_of<'a>(plan: &Plan<'a>, node: &Node, width: usize) -> Result<Option<Own<'a>>, AllocError>
     ensures { IfOk result (λ found. (c : Copy) → IsCopy plan.now.text.now plan.now.tokens.now node.now c
         → node.now.flat.width ≡ Some width → walking.is_mark node.now.flat.head ≡ true

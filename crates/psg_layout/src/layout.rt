@@ -22,7 +22,7 @@ pub enum LayoutFault {
         /// The number of the line, from 1.
         line: u32,
         /// The code of the test: 1 where the bytes are no text, 2 where the line has neither form, 5 where there is no
-        /// such operator, 7 where it has no such item, 4 where the line stands twice.
+        /// such operator, 7 where it has no such item, 4 where the line is there twice.
         code: u32,
     },
     /// Memory ran out.

@@ -137,7 +137,7 @@ impl LineEnd {
         Ok(())
     }
 
-    /// Puts a text of so many columns at the end, which has no line feed and begins with a character other than the
+    /// Puts a text of that many columns at the end, which has no line feed and begins with a character other than the
     /// space.
     pub(crate) fn put_flat(&mut self, width: usize) -> Result<(), AllocError>
         ensures { OnOk result ((c : ℕ) (cs : List ℕ) → has_feed (c ∷ cs) ≡ false → (c ≡ 32 → ⊥)

@@ -93,7 +93,7 @@ pub(crate) fn flat_at(nodes: &[Node], place: usize) -> Flat
     }
 }
 
-/// Returns how many bytes the first so many tokens have, of a text with so many bytes.
+/// Returns how many bytes the given number of first tokens have, of a text with that many bytes.
 fn end_of(tokens: &[Extent], count: usize, bytes: usize) -> usize
     ensures { (puts : List Put) → tokens.now ≡ extents 0 puts → bytes ≡ length (text_in puts)
         → result ≡ length (text_in (take count puts)) }
@@ -107,8 +107,8 @@ fn end_of(tokens: &[Extent], count: usize, bytes: usize) -> usize
     }
 }
 
-/// Returns the byte at which a node begins that has so many tokens after so many other ones, in a text with so many
-/// bytes.
+/// Returns the byte at which a node begins that has that many tokens after that many other ones, in a text with that
+/// many bytes.
 fn start_of(tokens: &[Extent], before: usize, own: usize, bytes: usize) -> usize
     ensures { (puts : List Put) → tokens.now ≡ extents 0 puts → bytes ≡ length (text_in puts)
         → result ≡ length (text_in (take before puts)) + length (first_gap (take own (drop before puts))) }
@@ -123,7 +123,8 @@ fn start_of(tokens: &[Extent], before: usize, own: usize, bytes: usize) -> usize
 }
 
 impl Node {
-    /// Ends the node at the end of what is written, with its first token if it has one. There are so many nodes in it.
+    /// Ends the node at the end of what is written, with its first token if it has one. There are that many nodes in
+    /// it.
     fn end(&mut self, first: Option<Begin>, stop: Stop, count: usize)
         ensures { (p : Page) → IsStop stop p → self.new ≡ ended first p count self.old }
     {
@@ -137,7 +138,7 @@ impl Node {
         }
     }
 
-    /// Returns the span of the node in another text of the same tokens, which have these bytes of so many.
+    /// Returns the span of the node in another text of the same tokens, which have these bytes, in a text of that many.
     fn span_in(self, tokens: &[Extent], bytes: usize) -> Result<Span, AllocError>
         ensures { IfOk result (λ span. (puts : List Put) → tokens.now ≡ extents 0 puts
             → bytes ≡ length (text_in puts) → span ≡ span_by puts self) }
@@ -157,7 +158,7 @@ impl Node {
 }
 
 impl Arranger {
-    /// Makes an arranger that has written nothing, with room for so many nodes.
+    /// Makes an arranger that has written nothing, with room for that many nodes.
     pub(crate) fn new(alloc: Global, count: usize) -> Result<Arranger, AllocError>
         ensures { IfOk result (λ made. IsWalk made new_walk) }
     {
@@ -198,7 +199,7 @@ impl Arranger {
         Ok(self.sheet.first.take())
     }
 
-    /// Ends the node that is listed there and was begun when so many nodes were written. The first token of the node
+    /// Ends the node that is listed there and was begun when that many nodes were written. The first token of the node
     /// above is its own one, unless another one is known.
     pub(crate) fn close(&mut self, listed: usize, place: usize, outer: Option<Begin>)
         requires { listed < length self.old.nodes.items }
@@ -225,7 +226,7 @@ impl Arranger {
     }
 }
 
-/// Returns the spans of the nodes in another text of the same tokens, which have these bytes of so many.
+/// Returns the spans of the nodes in another text of the same tokens, which have these bytes, in a text of that many.
 pub(crate) fn spans_of(
     alloc: Global,
     nodes: Vec<Node>,

@@ -33,7 +33,7 @@ pub(crate) enum Failed {
     Unknown,
     /// The operator has no item of the number, or it is the first one.
     Place,
-    /// The line stands twice.
+    /// The line is there twice.
     Repeated,
 }
 
@@ -76,7 +76,7 @@ fn items_of(definition: &Definition, op: u32) -> usize
     }
 }
 
-/// Says whether the number is that of one of so many items, which is not the first one.
+/// Says whether the number is that of one of that many items, which is not the first one.
 fn is_item(place: u32, count: usize) -> bool
     ensures { Decides result ((1 ≤ place) × (place < count)) }
 {
@@ -255,8 +255,8 @@ fn read_lines(alloc: Global, definition: &Definition, texts: &[&str]) -> Result<
 /// Reads a layout of the language's operators. Its lines are `group OP` and `break OP ITEM`, with spaces between the
 /// words. Empty lines and those that begin with `#` are skipped.
 ///
-/// A fault is the first one. Bytes that are not UTF-8 come first, then lines in order; on a line the tests 2, 5, 7, 4
-/// in this order. `Memory` is returned when memory runs out, at any time. It takes time linear in the bytes and, for each
+/// A fault is the first one. Bytes that are not UTF-8 are first, then lines in order; on a line the tests 2, 5, 7, 4 in
+/// this order. `Memory` is returned when memory runs out, at any time. It takes time linear in the bytes and, for each
 /// line, in the operators of the definition.
 pub fn read_layout(
     alloc: Global,

@@ -328,7 +328,7 @@ fn write_node(
     }
 }
 
-/// Writes a whole tree, in a flat group or not. It takes the memory for so many listed nodes at once.
+/// Writes a whole tree, in a flat group or not. It takes the memory for that many listed nodes at once.
 pub(crate) fn write_whole(
     alloc: Global,
     plan: &Plan<'_>,

@@ -16,7 +16,7 @@ use psg_terms::uncountable;
 use psg_tree::Tree;
 use std::alloc::AllocError;
 
-/// Whose items are written: those of the operator, with so many spaces after a break, or without breaks.
+/// Whose items are written: those of the operator, with that many spaces after a break, or without breaks.
 #[derive(Clone, Copy)]
 pub(crate) struct Mode {
     pub(crate) op: u32,

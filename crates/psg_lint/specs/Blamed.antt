@@ -1,5 +1,6 @@
--- What is told of a blamed place, by the table of the page on program files: one constructor for each row.
-use Rattle.std.specs.Prelude.{ℕ, ◌≡◌, Bool, true, false, cond, List, [], ◌∷◌, ◌++◌, Option, Some, None, slice_get, codes, decimal}
+-- What is reported about a blamed place, by the table of the page on program files: one constructor for each row.
+use Rattle.std.specs.Prelude.{ℕ, ◌≡◌, Bool, true, false, cond, List, [], ◌∷◌, ◌++◌, Option, Some, None, slice_get}
+use Rattle.std.specs.Prelude.{codes, decimal}
 use Rattle.psg_terms.specs.Names.{Name}
 use Rattle.psg_terms.specs.Terms.{Term}
 use Rattle.psg_grammar.specs.declared.types.Definition.{Definition}
@@ -15,7 +16,8 @@ use Rattle.psg_places.specs.Opened.{opened}
 use Rattle.psg_places.specs.Places.{declares, declares_by, operator_of}
 use Rattle.psg_program.specs.Places.{IsAt}
 use Rattle.psg_uses.specs.declared.names.Written.{Written}
-use Rattle.psg_wanted.specs.Fronts.{AreKeyValues, AreValues, IsListed, IsThere, IsTooMuch, elements_of, is_first, last_path}
+use Rattle.psg_wanted.specs.Fronts.{AreKeyValues, AreValues, IsListed, IsThere, IsTooMuch, elements_of, is_first}
+use Rattle.psg_wanted.specs.Fronts.{last_path}
 use Rattle.psg_wanted.specs.Fronts.{list_of, with_last}
 use Rattle.psg_uses.specs.Naming.{nth_name}
 use Rattle.psg_uses.specs.Regions.{declaration_of, declared_again}
@@ -34,7 +36,7 @@ element_phylum def list = element_of (slice_get def.lists (list_of list))
 abbrev pub place_text : ℕ → ℕ → List ℕ
 place_text line column = decimal line ++ 58 ∷ decimal column
 
--- no further element: `OP does not fit here` where elements declare
+-- no further element: `OP does not fit here` if elements declare
 abbrev pub operator_message : Definition → Option Operator → List ℕ
 operator_message def o = cond (declares_by def o) (operator_name o ++ codes " does not fit here")
     (codes "no further element fits here")
@@ -44,10 +46,11 @@ element_message def e = operator_message def (operator_of def e)
 
 -- it is the name of this number of the node at the path, and it is declared there or not
 abbrev pub IsNameOf : Definition → Fragment → Path → ℕ → Written → Bool → Type 0
-IsNameOf def f path k w declared = nth_name def path k (node_at f path) ≡ Some (record { name = w; declares = declared })
+IsNameOf def f path k w declared = nth_name def path k (node_at f path)
+    ≡ Some (record { name = w; declares = declared })
 
--- The operators that may be a further element of the list at the path, whose elements are of the phylum. Where the tree
--- passes a limit none are told.
+-- The operators that may be a further element of the list at the path, whose elements are of the phylum. If the tree
+-- passes a limit, none are reported.
 pub data IsElementMenu (def : Definition) (g : Fragment) (path : Path) (p : ℕ) : List ℕ → Type 0 where
   listed : (ops : List ℕ) → (IsTooMuch def g → ⊥)
       → IsMenu def g path (Some (elements_of (node_at g path))) (IsListed def) p ops → IsElementMenu def g path p ops
@@ -56,10 +59,12 @@ pub data IsElementMenu (def : Definition) (g : Fragment) (path : Path) (p : ℕ)
 -- the values of a further element say nothing, or the elements declare
 pub data SaysNoValues (def : Definition) (g : Fragment) (path : Path) (p : ℕ) : Type 0 where
   declaring : declares def p ≡ true → SaysNoValues def g path p
-  silent : (values : List Term) → AreValues def (with_last g path p) (last_path g path) values → say_nothing values ≡ true
+  silent : (values : List Term) → AreValues def (with_last g path p) (last_path g path) values
+      → say_nothing values ≡ true
       → SaysNoValues def g path p
 
--- What is told of the end of the list at the path of the tree: which values a further element has, or which it may be.
+-- What is reported about the end of the list at the path of the tree: which values a further element has, or which it
+-- may be.
 pub data IsEndMessage (def : Definition) (g : Fragment) (path : Path) : List ℕ → Type 0 where
   by_values : (p : ℕ) (wanted : List Term) → p ≡ element_phylum def (node_at g path) → declares def p ≡ false
       → AreValues def (with_last g path p) (last_path g path) wanted → say_nothing wanted ≡ false
@@ -79,7 +84,7 @@ module _ (def : Definition) (text : List ℕ) (f : Fragment) (r : Read) where
         → IsDeclaredText w (codes ", declared at " ++ place_text line column)
     declared_nowhere : declaration_of def f w ≡ None → IsDeclaredText w (codes ", used otherwise before")
 
-  -- what is told of a name that is declared
+  -- what is reported about a name that is declared
   pub data IsDeclaredMessage (w : Written) : List ℕ → Type 0 where
     twice : (d : Written) (line column : ℕ) → declared_again def f w ≡ Some d → IsNameAt d line column
         → IsDeclaredMessage w (w.name ++ (codes " is declared twice, at " ++ (place_text line column ++ codes " too")))
@@ -99,7 +104,7 @@ module _ (def : Definition) (text : List ℕ) (f : Fragment) (r : Read) where
           → IsUseMessage kept n w (w.name ++ (codes " does not fit here"
           ++ (entity_wanted def.signature terms ++ declared)))
 
-    -- The place n is told so, where `kept` are the answers for those before it.
+    -- This is reported about the place n, if `kept` are the answers for those before it.
     pub data IsMessage (kept : List Bool) (n : ℕ) : Place → List ℕ → Type 0 where
       of_node : (path there : Path) (g : Fragment) (wanted found : List Term) → node_at f path ≡ Some g
           → IsThere def f kept path there → AreValues def (tree_of kept) there wanted

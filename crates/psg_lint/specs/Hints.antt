@@ -1,5 +1,6 @@
 -- Other places than the blamed one, which say more of what is wrong.
-use Rattle.std.specs.Prelude.{ℕ, suc, ◌≡◌, ◌<◌, Bool, true, false, List, [], ◌∷◌, ◌++◌, length, Some, slice_get, take, drop}
+use Rattle.std.specs.Prelude.{ℕ, suc, ◌≡◌, ◌<◌, Bool, true, false, List, [], ◌∷◌, ◌++◌, length, Some, slice_get, take}
+use Rattle.std.specs.Prelude.{drop}
 use Rattle.psg_terms.specs.Names.{Name}
 use Rattle.psg_terms.specs.Relations.{IsIn}
 use Rattle.psg_grammar.specs.declared.types.Definition.{Definition}
@@ -74,12 +75,13 @@ pub record IsLoose (def : Definition) (f : Fragment) (kept : List Bool) (region 
   pub is_kept : slice_get kept number ≡ Some true
   pub is_use : IsLooseUse def f region place w
 
--- the answers, but that the place of the number is not kept
+-- the answers, except that the place of the number is not kept
 abbrev pub but_for : List Bool → ℕ → List Bool
 but_for kept number = take number kept ++ false ∷ (drop (suc number) kept)
 
 -- With another name there the end, which is the place after these answers, can be kept. It is the last such use.
-pub record IsOtherName (def : Definition) (fresh : ℕ → Name) (f : Fragment) (kept : List Bool) (path : Path) (number : ℕ)
+pub record IsOtherName (def : Definition) (fresh : ℕ → Name) (f : Fragment) (kept : List Bool) (path : Path)
+    (number : ℕ)
     (w : Written) : Type 0 where
   pub declaring : declares def (element_phylum def (node_at f path)) ≡ true
   pub is_loose : IsLoose def f kept (region_of def f path) number w

@@ -1,4 +1,4 @@
--- A program that is judged, and one that is wrong, as the program keeps them.
+-- A program that is judged, and one that is wrong, as `lint` keeps them.
 use Rattle.std.specs.Prelude.{ℕ, ◌≡◌}
 use Rattle.psg_terms.specs.Names.{Name}
 use Rattle.psg_grammar.specs.declared.types.Definition.{Definition}

@@ -8,7 +8,7 @@ use Rattle.psg_wanted.specs.Fronts.{list_of}
 use Rattle.psg_lint.specs.declared.ends.Listed.{Listed}
 use Rattle.psg_lint.specs.OpenPlaces.{is_unfinished}
 
--- the tree is a list of elements of the phylum, with so many
+-- the tree is a list of elements of the phylum, with that many
 pub record IsListOf (def : Definition) (f : Fragment) (l : Listed) : Type 0 where
   pub is_list : IsList f
   pub elements : l.elements ≡ length (children_of f)

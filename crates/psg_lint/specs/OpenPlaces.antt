@@ -1,5 +1,6 @@
--- What is told of the places of a program that are still open.
-use Rattle.std.specs.Prelude.{ℕ, ◌≡◌, ◌||◌, Bool, true, false, cond, List, [], ◌∷◌, ◌++◌, length, Option, Some, None, slice_get, codes}
+-- What is reported about the places of a program that are still open.
+use Rattle.std.specs.Prelude.{ℕ, ◌≡◌, ◌||◌, Bool, true, false, cond, List, [], ◌∷◌, ◌++◌, length, Option, Some, None}
+use Rattle.std.specs.Prelude.{slice_get, codes}
 use Rattle.psg_terms.specs.Signature.{Signature, only_constructor}
 use Rattle.psg_terms.specs.Terms.{Term}
 use Rattle.psg_grammar.specs.declared.types.Phylum.{Phylum}
@@ -25,7 +26,7 @@ abbrev pub is_there : Option ℕ → Bool
 is_there None = false
 is_there (Some c) = true
 
--- The sort has one constructor alone. In each signature that is a constant then.
+-- The sort has one constructor alone, which is then a constant in each signature.
 abbrev pub has_one_value : Signature → ℕ → Bool
 has_one_value sig sort = is_there (only_constructor sig sort)
 
@@ -41,10 +42,11 @@ hole_message def p values ops = 63 ∷ p.name ++ (codes " is open"
     ++ (wanted_text def p values ++ (codes ": " ++ menu_or_none def ops)))
 
 module _ (def : Definition) (f : Fragment) (r : Read) where
-  -- what is told of the node at the path: nothing, of most
+  -- what is reported about the node at the path; about most nodes nothing is
   pub data IsNoted : Path → Fragment → List Finding → Type 0 where
     open_hole : (path : Path) (p : ℕ) (phylum : Phylum) (values : List Term) (ops : List ℕ)
-        → slice_get def.phyla p ≡ Some phylum → AreValues def f path values → IsMenu def f path None (IsListed def) p ops
+        → slice_get def.phyla p ≡ Some phylum → AreValues def f path values
+        → IsMenu def f path None (IsListed def) p ops
         → IsNoted path (hole p) (note_at (node_byte def r path) (hole_message def phylum values ops) ∷ [])
     open_list : (path : Path) (g : Fragment) (ops : List ℕ) → is_unfinished g ≡ true
         → IsMenu def f path (Some (length (children_of g))) (IsListed def) (element_phylum def (Some g)) ops

@@ -1,4 +1,4 @@
--- A program that has a completion, as the program keeps it.
+-- A program that has a completion, as `lint` keeps it.
 use Rattle.std.specs.Prelude.{ℕ, ◌≡◌, List, [], Some}
 use Rattle.psg_grammar.specs.Fragments.{Fragment}
 use Rattle.psg_grammar.specs.Marks.{Located, nodes_from}
@@ -16,7 +16,7 @@ pub record IsOpenOne (o : Open) : Type 0 where
   pub note : IsNoteOf o.judged.definition.now o.judged.tree.now o.note.now
   pub used : o.used.now ≡ occurring o.judged.tree.now
 
--- the nodes of a part of the node at the path, which has so many children before it
+-- the nodes of a part of the node at the path, which has that many children before it
 abbrev pub part_nodes : Path → ℕ → Part → List Located
 part_nodes path child (Sub t) = nodes_from (below path child) t
 part_nodes path child (Name x) = []

@@ -87,7 +87,7 @@ pub record IsFine (def : Definition) (kind : Kind) (bytes : List ℕ) : Type 0 w
   pub within : IsWithin def tree
   pub good : IsCompletable def tree
 
--- No line is an error exactly where the bytes are such a program.
+-- No line is an error exactly if the bytes are such a program.
 abbrev pub IsFineExactly : Definition → Type 0
 IsFineExactly def = (kind : Kind) (bytes text : List ℕ) (limited more : Bool) (found : List Finding)
     → IsReport def kind bytes text limited found more → (has_error found ≡ false) ↔ IsFine def kind bytes

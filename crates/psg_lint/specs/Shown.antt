@@ -17,7 +17,8 @@ pub record IsReportOf (def : Definition) (kind : Kind) (bytes : List ℕ) (repor
 
 -- of a text, whatever mark is in front of its bytes
 abbrev pub IsTextReport : Definition → Kind → List ℕ → Report → Type 0
-IsTextReport def kind text report = (bytes : List ℕ) → unmarked bytes ≡ text → IsUtf8 text → IsReportOf def kind bytes report
+IsTextReport def kind text report = (bytes : List ℕ) → unmarked bytes ≡ text → IsUtf8 text
+    → IsReportOf def kind bytes report
 
 -- the lines of the report, in the text in which its places are
 pub record IsShownReport (text file : List ℕ) (report : Report) (shown : List ℕ) : Type 0 where

@@ -1,5 +1,6 @@
 -- Declarations that explain all that is wrong.
-use Rattle.std.specs.Prelude.{ℕ, ◌≡◌, ◌<◌, ◌≤◌, ◌↔◌, ◌+◌, Bool, true, false, List, [], ◌∷◌, ◌++◌, length, Option, None, Some, slice_get, codes}
+use Rattle.std.specs.Prelude.{ℕ, ◌≡◌, ◌<◌, ◌≤◌, ◌↔◌, ◌+◌, Bool, true, false, List, [], ◌∷◌, ◌++◌, length, Option, None}
+use Rattle.std.specs.Prelude.{Some, slice_get, codes}
 use Rattle.psg_terms.specs.Names.{Name}
 use Rattle.psg_grammar.specs.declared.types.Definition.{Definition}
 use Rattle.psg_grammar.specs.Fragments.{Fragment}
@@ -48,7 +49,8 @@ module _ (def : Definition) (f : Fragment) where
     pub opens : (n : ℕ) → (slice_get answers n ≡ Some false) ↔ IsContent path number n
     pub some : (n : ℕ) × IsContent path number n
 
-  -- All blamed places are outside of what is below the declaration, and with its contents opened all the rest can be kept.
+  -- All blamed places are outside of what is below the declaration, and with its contents opened all the rest can be
+  -- kept.
   pub record IsExplaining (fresh : ℕ → Name) (kept : List Bool) (path : Path) (number : ℕ) : Type 0 where
     pub outside : AreOutside kept path
     pub answers : List Bool
@@ -74,7 +76,7 @@ module _ (def : Definition) (f : Fragment) where
         → ((w : Written) → IsSuspect fresh kept number w → ⊥) → AreSuspected r fresh kept (number + 1) places found
         → AreSuspected r fresh kept number (place ∷ places) found
 
-  -- what is told of the place of the number
+  -- what is reported about the place of the number
   pub data IsSuspected (r : Read) (fresh : ℕ → Name) (kept : List Bool) (number : ℕ) : List Finding → Type 0 where
     one_suspect : (w : Written) → IsSuspect fresh kept number w → IsSuspected r fresh kept number
         (note_at (name_byte def r w.path w.number)

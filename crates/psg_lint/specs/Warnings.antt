@@ -1,4 +1,4 @@
--- What is told of the names that nothing declares.
+-- What is reported about the names that nothing declares.
 use Rattle.std.specs.Prelude.{List, [], ◌∷◌, ◌++◌, codes}
 use Rattle.psg_grammar.specs.declared.types.Definition.{Definition}
 use Rattle.psg_recover.specs.declared.finding.Finding.{Finding}

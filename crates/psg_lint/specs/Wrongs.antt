@@ -1,5 +1,6 @@
--- What is told of a program that has no completion.
-use Rattle.std.specs.Prelude.{ℕ, suc, ◌≡◌, ◌<◌, ◌⊎◌, Bool, true, false, List, [], ◌∷◌, ◌++◌, Some, slice_get, take, codes}
+-- What is reported about a program that has no completion.
+use Rattle.std.specs.Prelude.{ℕ, suc, ◌≡◌, ◌<◌, ◌⊎◌, Bool, true, false, List, [], ◌∷◌, ◌++◌, Some, slice_get, take}
+use Rattle.std.specs.Prelude.{codes}
 use Rattle.psg_terms.specs.Names.{Name}
 use Rattle.psg_grammar.specs.declared.types.Definition.{Definition}
 use Rattle.psg_grammar.specs.Fragments.{Fragment}
@@ -33,7 +34,7 @@ wide_message = codes "too many values are possible here"
 abbrev pub heavy_message : List ℕ
 heavy_message = codes "the program is too heavy"
 
--- what is told of a limit; where a node is too wide, this is its path in the program
+-- what is reported about a limit; if a node is too wide, this is its path in the program
 abbrev pub limit_told : Definition → Read → NoteFault → Path → Finding
 limit_told def r faults.Deep path = error_at 0 deep_message
 limit_told def r faults.Big path = error_at 0 large_message
@@ -41,8 +42,8 @@ limit_told def r (faults.Wide at step) path = error_at (node_byte def r path) wi
 limit_told def r faults.Heavy path = error_at 0 heavy_message
 limit_told def r faults.Memory path = error_at 0 []
 
--- What is told of a limit that a tree passes in the search: where a node is too wide, of that node of the program, and else
--- of the whole.
+-- What is reported about a limit that a tree passes in the search: if a node is too wide, about that node of the
+-- program, and else about the whole.
 abbrev pub trial_told : Definition → Read → NoteFault → Path → Finding
 trial_told def r (faults.Wide at step) path = error_at (node_byte def r path) wide_message
 trial_told def r _ path = error_at (first_byte def r) wide_message
@@ -58,7 +59,7 @@ list_path [] = []
 list_path (k ∷ []) = []
 list_path (k ∷ j ∷ path) = k ∷ list_path (j ∷ path)
 
--- An element of the same list was blamed before the place n, and the elements declare nothing: nothing is told.
+-- An element of the same list was blamed before the place n, and the elements declare nothing: nothing is reported.
 pub record IsToldBefore (def : Definition) (f : Fragment) (kept : List Bool) (n : ℕ) (path : Path) : Type 0 where
   pub before : ℕ
   pub earlier : before < n
@@ -77,7 +78,7 @@ module _ (def : Definition) (text : List ℕ) (f : Fragment) (r : Read) where
   IsAtPath place path = (place ≡ Node path) ⊎ (place ≡ Element path)
 
   module _ (fresh : ℕ → Name) (kept : List Bool) where
-    -- what is told of the blamed place n
+    -- what is reported about the blamed place n
     pub data IsTold (n : ℕ) : Place → List Finding → Type 0 where
       told_before : (path : Path) → IsToldBefore def f kept n path → IsTold n (Element path) []
       without_member : (place : Place) (path : Path) (less : Member) → IsAtPath place path
@@ -104,20 +105,21 @@ module _ (def : Definition) (text : List ℕ) (f : Fragment) (r : Read) where
           → IsTold n place own → AreTold (suc n) answers places found
           → AreTold n (false ∷ answers) (place ∷ places) (own ++ found)
 
-    -- what is told of the place of the number: nothing, if it is kept
+    -- what is reported about the place of the number: nothing, if it is kept
     pub data IsNumberTold (places : List Place) (n : ℕ) : List Finding → Type 0 where
       kept_told : slice_get kept n ≡ Some true → IsNumberTold places n []
-      blamed_told : (place : Place) (own : List Finding) → slice_get kept n ≡ Some false → slice_get places n ≡ Some place
+      blamed_told : (place : Place) (own : List Finding) → slice_get kept n ≡ Some false
+          → slice_get places n ≡ Some place
           → IsTold n place own → IsNumberTold places n own
 
-    -- no suspects where a hundred places are blamed, and then more may follow
+    -- no suspects if a hundred places are blamed, and then more may follow
     pub data AreSuspects : List Finding → Bool → Type 0 where
       too_many : blamed_in kept ≡ most_blamed → AreSuspects [] true
       few : (found : List Finding) → (blamed_in kept ≡ most_blamed → ⊥)
           → AreSuspected def f r fresh kept 0 (places_of def f) found → AreSuspects found false
 
-  -- What is wrong with the values, and whether more may follow. `limited` says that a tree of the search passes a limit: that
-  -- is told where the search meets one, and the search skips trees, so beside it other answers may hold, too.
+  -- What is wrong with the values, and whether more may follow. `limited` says that a tree of the search passes a
+  -- limit: that is reported if the search meets one. The search skips trees, so other answers may hold beside it.
   pub data AreWrong : (limited : Bool) → List Finding → Bool → Type 0 where
     -- nothing is
     none_wrong : IsOpen def f → AreWrong false [] false

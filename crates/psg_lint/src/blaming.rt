@@ -1,5 +1,6 @@
-//! What is told of the blamed places of a program.
-ghost use Rattle.std.specs.Prelude.{◌≡◌, ◌<◌, ◌++◌, ◌∷◌, ◌⊎◌, ◌↔◌, [], ℕ, Bool, IfOk, List, OnOk, Some, false, length, slice_get, take, true};
+//! What is reported about the blamed places of a program.
+ghost use Rattle.std.specs.Prelude.{◌≡◌, ◌<◌, ◌++◌, ◌∷◌, ◌⊎◌, ◌↔◌, [], ℕ, Bool, IfOk, List, OnOk, Some, false, length};
+ghost use Rattle.std.specs.Prelude.{slice_get, take, true};
 ghost use Rattle.psg_completions.specs.Conditions.{HasTrueRows};
 ghost use Rattle.psg_grammar.specs.Open.{IsOpen};
 ghost use Rattle.psg_grammar.specs.Paths.{Path as PlainPath};
@@ -17,7 +18,8 @@ ghost use Rattle.psg_lint.specs.Blamed.{IsMessage, IsUseMessage};
 ghost use Rattle.psg_lint.specs.Judged.{IsJudged, IsWrong, def_of, fresh_of, tree_in};
 ghost use Rattle.psg_lint.specs.Suspects.{one_or_none};
 ghost use Rattle.psg_lint.specs.Wrongs as wrongs;
-ghost use Rattle.psg_lint.specs.Wrongs.{AreSuspects, AreTold, AreWrong, IsNumberTold, IsTold, IsToldBefore, limit_told, trial_told};
+ghost use Rattle.psg_lint.specs.Wrongs.{AreSuspects, AreTold, AreWrong, IsNumberTold, IsTold, IsToldBefore, limit_told};
+ghost use Rattle.psg_lint.specs.Wrongs.{trial_told};
 ghost use Rattle.psg_lint.specs.Wrongs.{wide_path};
 
 use crate::ends::is_declaring_list;
@@ -100,7 +102,7 @@ fn is_blamed_before(wrong: Wrong, number: usize, list: &[u32]) -> bool
     false
 }
 
-/// Says whether an earlier element of the same list was told of, and no further one is.
+/// Says whether an earlier element of the same list was reported, so that no further one is.
 fn is_told_before(
     alloc: Global,
     wrong: Wrong,
@@ -122,7 +124,7 @@ fn is_told_before(
     Ok(!declaring)
 }
 
-/// Returns what is told of the place itself.
+/// Returns what is reported about the place itself.
 fn tell_itself<L: Ledger>(
     alloc: Global,
     wrong: Wrong,
@@ -145,7 +147,7 @@ fn tell_itself<L: Ledger>(
     Ok(told)
 }
 
-/// Returns what is told of the element without which the blamed place would be right.
+/// Returns what is reported about the element without which the blamed place would be right.
 fn tell_member(alloc: Global, wrong: Wrong, own: &Path) -> Result<Finding, AllocError>
     requires wrong { IsWrong wrong }
     ensures { IfOk result (λ told. (r : Read) → IsSpotsOf wrong.entry.judged.spots r
@@ -156,8 +158,8 @@ fn tell_member(alloc: Global, wrong: Wrong, own: &Path) -> Result<Finding, Alloc
     Ok(told)
 }
 
-/// Returns what is told of the blamed node or element: of the element of a fixed list without which it would be right, or
-/// of itself.
+/// Returns what is reported about the blamed node or element: of the element of a fixed list without which it would be
+/// right, or of itself.
 fn tell_node<L: Ledger>(
     alloc: Global,
     wrong: Wrong,
@@ -171,10 +173,12 @@ fn tell_node<L: Ledger>(
     requires blamed { slice_get wrong.kept.now number ≡ Some false }
     requires place { slice_get wrong.places.now number ≡ Some (place.now) }
     requires path { (place.now ≡ places.Node path.now) ⊎ (place.now ≡ places.Element path.now) }
-    requires first { place.now ≡ places.Element path.now → IsToldBefore (def_of wrong) (tree_in wrong) wrong.kept.now number
+    requires first { place.now ≡ places.Element path.now
+        → IsToldBefore (def_of wrong) (tree_in wrong) wrong.kept.now number
         path.now → ⊥ }
     ensures { IfOk result (λ told. (r : Read) → IsSpotsOf wrong.entry.judged.spots r → IsTold (def_of wrong.entry)
-        wrong.entry.judged.text.now (tree_in wrong.entry) r (fresh_of wrong.entry) wrong.entry.kept.now number (place.now)
+        wrong.entry.judged.text.now (tree_in wrong.entry) r (fresh_of wrong.entry)
+        wrong.entry.kept.now number (place.now)
         (told ∷ [])) }
 {
     let found = better_without(alloc, wrong, number, path, steps)?;
@@ -190,7 +194,7 @@ fn tell_node<L: Ledger>(
     }
 }
 
-/// Returns what is told of the use that gets another name.
+/// Returns what is reported about the use that gets another name.
 fn tell_other<L: Ledger>(
     alloc: Global,
     wrong: Wrong,
@@ -211,7 +215,7 @@ fn tell_other<L: Ledger>(
     Ok(told)
 }
 
-/// Returns what is told of the blamed end: of a use that is wrong instead, or of itself.
+/// Returns what is reported about the blamed end: of a use that is wrong instead, or of itself.
 fn tell_end<L: Ledger>(
     alloc: Global,
     wrong: Wrong,
@@ -226,7 +230,8 @@ fn tell_end<L: Ledger>(
     requires place { slice_get wrong.places.now number ≡ Some (place.now) }
     requires path { place.now ≡ places.End path.now }
     ensures { IfOk result (λ told. (r : Read) → IsSpotsOf wrong.entry.judged.spots r → IsTold (def_of wrong.entry)
-        wrong.entry.judged.text.now (tree_in wrong.entry) r (fresh_of wrong.entry) wrong.entry.kept.now number (place.now)
+        wrong.entry.judged.text.now (tree_in wrong.entry) r (fresh_of wrong.entry)
+        wrong.entry.kept.now number (place.now)
         (told ∷ [])) }
 {
     let found = other_name(alloc, wrong, number, path, steps)?;
@@ -242,7 +247,7 @@ fn tell_end<L: Ledger>(
     }
 }
 
-/// Returns what is told of the blamed element; nothing where an earlier one of its list was told of.
+/// Returns what is reported about the blamed element; nothing if an earlier one of its list was reported.
 fn tell_element<L: Ledger>(
     alloc: Global,
     wrong: Wrong,
@@ -257,7 +262,8 @@ fn tell_element<L: Ledger>(
     requires place { slice_get wrong.places.now number ≡ Some (place.now) }
     requires path { place.now ≡ places.Element path.now }
     ensures { IfOk result (λ found. (r : Read) → IsSpotsOf wrong.entry.judged.spots r → IsTold (def_of wrong.entry)
-        wrong.entry.judged.text.now (tree_in wrong.entry) r (fresh_of wrong.entry) wrong.entry.kept.now number (place.now)
+        wrong.entry.judged.text.now (tree_in wrong.entry) r (fresh_of wrong.entry)
+        wrong.entry.kept.now number (place.now)
         (one_or_none found)) }
 {
     let before = is_told_before(alloc, wrong, number, path)?;
@@ -268,7 +274,7 @@ fn tell_element<L: Ledger>(
     Ok(Some(told))
 }
 
-/// Returns what is told of the blamed place of the number.
+/// Returns what is reported about the blamed place of the number.
 fn told_place<L: Ledger>(
     alloc: Global,
     wrong: Wrong,
@@ -304,7 +310,7 @@ fn told_place<L: Ledger>(
     }
 }
 
-/// Adds what is told of the place of the number, if it is blamed.
+/// Adds what is reported about the place of the number, if it is blamed.
 fn tell_place<L: Ledger>(
     alloc: Global,
     wrong: Wrong,
@@ -326,7 +332,7 @@ fn tell_place<L: Ledger>(
     Ok(())
 }
 
-/// Adds what is told of the blamed places.
+/// Adds what is reported about the blamed places.
 fn tell_all<L: Ledger>(
     alloc: Global,
     wrong: Wrong,
@@ -336,7 +342,8 @@ fn tell_all<L: Ledger>(
     requires wrong { IsWrong wrong }
     ensures { OnOk result ((r : Read) → IsSpotsOf wrong.entry.judged.spots r → (own : List Told)
         × (found.new.items ≡ found.old.items ++ own) × AreTold (def_of wrong.entry) wrong.entry.judged.text.now
-        (tree_in wrong.entry) r (fresh_of wrong.entry) wrong.entry.kept.now 0 wrong.entry.kept.now wrong.entry.places.now own) }
+        (tree_in wrong.entry) r (fresh_of wrong.entry) wrong.entry.kept.now 0 wrong.entry.kept.now
+        wrong.entry.places.now own) }
 {
     for number in 0..wrong.kept.len() {
         tell_place(alloc, wrong, number, found, steps)?;
@@ -365,7 +372,7 @@ fn tell_more<L: Ledger>(
     Ok(false)
 }
 
-/// Adds what is told of the blamed places, and says whether more may follow.
+/// Adds what is reported about the blamed places, and says whether more may follow.
 fn tell_places<L: Ledger>(
     alloc: Global,
     wrong: Wrong,
@@ -384,7 +391,7 @@ fn tell_places<L: Ledger>(
     Ok(more)
 }
 
-/// Adds what is told of the blamed places of the program, and says whether more may follow.
+/// Adds what is reported about the blamed places of the program, and says whether more may follow.
 fn tell_blamed<L: Ledger>(
     alloc: Global,
     judged: Judged,
@@ -410,7 +417,7 @@ fn tell_blamed<L: Ledger>(
     Ok(more)
 }
 
-/// Returns where it is told that the node at the path of the tree of the kept places is too wide.
+/// Returns the place of the report that the node at the path of the tree of the kept places is too wide.
 fn wide_byte(alloc: Global, judged: Judged, kept: &[bool], path: &Path) -> Result<usize, AllocError>
     requires judged { IsJudged judged }
     ensures { IfOk result (λ byte. (r : Read) → IsSpotsOf judged.entry.spots r → (back : PlainPath)
@@ -425,7 +432,8 @@ fn wide_byte(alloc: Global, judged: Judged, kept: &[bool], path: &Path) -> Resul
     Ok(byte)
 }
 
-/// Returns where a limit that the tree of the kept places passes is told: of the node that is too wide, or of the whole.
+/// Returns the place of the report about a limit that the tree of the kept places passes: the node that is too wide, or
+/// the whole.
 fn limit_byte(
     alloc: Global,
     judged: Judged,
@@ -451,7 +459,7 @@ fn limit_byte(
     }
 }
 
-/// Returns what is told of a limit that the tree of the kept places passes.
+/// Returns what is reported about a limit that the tree of the kept places passes.
 fn tell_limit(
     alloc: Global,
     judged: Judged,
@@ -468,7 +476,7 @@ fn tell_limit(
     Ok(told)
 }
 
-/// Returns what is told of a limit that the program passes.
+/// Returns what is reported about a limit that the program passes.
 pub(crate) fn told_limit(
     alloc: Global,
     judged: Judged,
@@ -529,7 +537,7 @@ fn tell_answer<L: Ledger>(
     }
 }
 
-/// Adds what is told of the fault of the search.
+/// Adds what is reported about the fault of the search.
 fn tell_fault(
     alloc: Global,
     judged: Judged,
@@ -565,7 +573,8 @@ pub(crate) fn tell_wrong<L: Ledger>(
     requires wrong { IsOpen judged.definition.now judged.tree.now → ⊥ }
     ensures { IfOk result (λ more. (r : Read) → IsSpotsOf judged.entry.spots r → (told : List Told)
         × (found.new.items ≡ found.old.items ++ told)
-        × ((limited : Bool) × AreWrong judged.entry.definition.now judged.entry.text.now judged.entry.tree.now r limited told
+        × ((limited : Bool)
+        × AreWrong judged.entry.definition.now judged.entry.text.now judged.entry.tree.now r limited told
         more)) }
 {
     match blame(alloc, judged.definition, judged.tables, judged.tree, steps) {

@@ -1,5 +1,6 @@
-//! Lists that want a further element, and what is told of them.
-ghost use Rattle.std.specs.Prelude.{◌≡◌, ◌++◌, ◌∷◌, [], IfOk, IfSome, Some, None, codes, false, length, string_bytes, true};
+//! Lists that want a further element, and what is reported about them.
+ghost use Rattle.std.specs.Prelude.{◌≡◌, ◌++◌, ◌∷◌, [], IfOk, IfSome, Some, None, codes, false, length, string_bytes};
+ghost use Rattle.std.specs.Prelude.{true};
 ghost use Rattle.psg_grammar.specs.Fragments.{Fragment, children_of};
 ghost use Rattle.psg_grammar.specs.Paths as grammar;
 ghost use Rattle.psg_grammar.specs.Paths.{IsList, node_at};
@@ -213,7 +214,7 @@ fn menu_at<L: Ledger>(
     }
 }
 
-/// Tells which values are wanted of a further element.
+/// Says which values are wanted of a further element.
 fn told_values(alloc: Global, judged: Judged, wanted: &[Term]) -> Result<String, AllocError>
     requires { AreSorted judged.definition.now.signature wanted.now }
     ensures { IfOk result (λ message. string_bytes message ≡ codes "an element is missing here, wanted "
@@ -224,7 +225,7 @@ fn told_values(alloc: Global, judged: Judged, wanted: &[Term]) -> Result<String,
     Ok(message)
 }
 
-/// Tells which operators may be a further element.
+/// Says which operators may be a further element.
 fn told_menu(alloc: Global, judged: Judged, ops: &[u32]) -> Result<String, AllocError>
     ensures { IfOk result (λ message. string_bytes message ≡ codes "an element is missing here: "
         ++ texts.menu_or_none judged.entry.definition.now ops.now) }
@@ -234,7 +235,7 @@ fn told_menu(alloc: Global, judged: Judged, ops: &[u32]) -> Result<String, Alloc
     Ok(message)
 }
 
-/// Tells which element the list at the path of the tree wants.
+/// Says which element the list at the path of the tree wants.
 pub(crate) fn of_list<L: Ledger>(
     alloc: Global,
     judged: Judged,
@@ -245,7 +246,8 @@ pub(crate) fn of_list<L: Ledger>(
     requires judged { IsJudged judged }
     requires formed { IsFormed judged.definition.now tree.now }
     requires there { (list : Fragment) × (node_at tree.now path.now ≡ Some list) × IsList list }
-    ensures { IfOk result (λ message. IsEndMessage judged.entry.definition.now tree.now path.now (string_bytes message)) }
+    ensures { IfOk result (λ message. IsEndMessage judged.entry.definition.now tree.now path.now
+        (string_bytes message)) }
 {
     let list = list_at(judged, tree, path);
     let wanted = wanted_element(alloc, judged, tree, path, list, steps)?;

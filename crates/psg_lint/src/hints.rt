@@ -11,7 +11,8 @@ ghost use Rattle.psg_uses.specs.Members as elements;
 ghost use Rattle.psg_uses.specs.Regions as uses;
 ghost use Rattle.psg_uses.specs.declared.elements.Member.{Member as PlainMember};
 ghost use Rattle.psg_uses.specs.declared.names.Written.{Written as Plain};
-ghost use Rattle.psg_lint.specs.Hints.{HasMember, HasNoOtherName, HasNoWithout, IsGoodWith, IsLast, IsLastOther, IsLoose};
+ghost use Rattle.psg_lint.specs.Hints.{HasMember, HasNoOtherName, HasNoWithout, IsGoodWith, IsLast, IsLastOther};
+ghost use Rattle.psg_lint.specs.Hints.{IsLoose};
 ghost use Rattle.psg_lint.specs.Hints.{IsLooseUse, IsOther, IsOtherName, IsUndeclared, IsWithout, but_for};
 ghost use Rattle.psg_lint.specs.Judged.{IsWrong, def_of, fresh_of, tree_in};
 
@@ -103,8 +104,8 @@ fn last_better<L: Ledger>(
     Ok(None)
 }
 
-/// Returns the path of the last element of a fixed list of the node at the path without which the place of the number can
-/// be kept.
+/// Returns the path of the last element of a fixed list of the node at the path without which the place of the number
+/// can be kept.
 pub(crate) fn better_without<L: Ledger>(
     alloc: Global,
     wrong: Wrong,
@@ -161,8 +162,9 @@ fn if_loose(
     region: &[u32],
     own: Named,
 ) -> Result<Option<Written>, AllocError>
-    ensures { IfOk result (λ found. MatchOption found (IsUndeclared (def_of wrong.entry) (tree_in wrong.entry) region.now
-        own → ⊥) (λ w. (w ≡ own.name) × IsUndeclared (def_of wrong.entry) (tree_in wrong.entry) region.now own)) }
+    ensures { IfOk result (λ found. MatchOption found
+        (IsUndeclared (def_of wrong.entry) (tree_in wrong.entry) region.now own → ⊥)
+        (λ w. (w ≡ own.name) × IsUndeclared (def_of wrong.entry) (tree_in wrong.entry) region.now own)) }
 {
     if own.declares {
         return Ok(None);
@@ -175,8 +177,8 @@ fn if_loose(
     Ok(Some(name))
 }
 
-/// Returns the name of the number of the node at the path if it is used in the region, and nothing in the region declares
-/// it.
+/// Returns the name of the number of the node at the path if it is used in the region, and nothing in the region
+/// declares it.
 fn loose_name(
     alloc: Global,
     wrong: Wrong,
@@ -185,7 +187,8 @@ fn loose_name(
     name: usize,
 ) -> Result<Option<Written>, AllocError>
     ensures { IfOk result (λ found. MatchOption found
-        ((w : Plain) → IsLooseUse (def_of wrong.entry) (tree_in wrong.entry) region.now (places.Name path.now name) w → ⊥)
+        ((w : Plain) → IsLooseUse (def_of wrong.entry) (tree_in wrong.entry) region.now
+        (places.Name path.now name) w → ⊥)
         (IsLooseUse (def_of wrong.entry) (tree_in wrong.entry) region.now (places.Name path.now name))) }
 {
     if !is_in(region, path) {
@@ -232,7 +235,8 @@ pub(crate) struct OtherName {
     pub(crate) answers: Vec<bool>,
 }
 
-/// Returns the answers for the places before the end, but that the place of the number is not kept, and that the end is.
+/// Returns the answers for the places before the end, but that the place of the number is not kept, and that the end
+/// is.
 fn answers_but(
     alloc: Global,
     kept: &[bool],
@@ -337,9 +341,9 @@ fn last_use<L: Ledger>(
     Ok(None)
 }
 
-/// Finds the last use of the region around the list at the path with another name for which the end of the list, the place
-/// of the number, can be kept. Only uses are tried that are kept and that nothing in the region declares, and only where
-/// elements of the list declare.
+/// Finds the last use of the region around the list at the path with another name for which the end of the list, the
+/// place of the number, can be kept. Only uses are tried that are kept and that nothing in the region declares, and
+/// only where elements of the list declare.
 pub(crate) fn other_name<L: Ledger>(
     alloc: Global,
     wrong: Wrong,

@@ -43,7 +43,7 @@ fn has_error(found: &[Finding]) -> bool
     found.iter().any(|one| is_error(one))
 }
 
-/// Adds what is told of the program, which has a completion: the names that nothing declares, and what is open.
+/// Adds what is reported about the program, which has a completion: the names that nothing declares, and what is open.
 fn tell_good<L: Ledger>(
     alloc: Global,
     judged: Judged,
@@ -77,7 +77,8 @@ fn tell_if_wrong<L: Ledger>(
         × (IsOpen judged.definition.now judged.tree.now → good ≡ true) }
     ensures { IfOk result (λ more. (r : Read) → IsSpotsOf judged.entry.spots r → (told : List Told)
         × (found.new.items ≡ found.old.items ++ told)
-        × ((limited : Bool) × AreWrong judged.entry.definition.now judged.entry.text.now judged.entry.tree.now r limited told
+        × ((limited : Bool)
+        × AreWrong judged.entry.definition.now judged.entry.text.now judged.entry.tree.now r limited told
         more)) }
 {
     if good {
@@ -87,8 +88,8 @@ fn tell_if_wrong<L: Ledger>(
     Ok(more)
 }
 
-/// Adds what is found in the program, which has the note, and says whether more may follow. Of open places nothing is told
-/// where something is wrong.
+/// Adds what is found in the program, which has the note, and says whether more may follow. Of open places nothing is
+/// reported where something is wrong.
 fn tell_noted<L: Ledger>(
     alloc: Global,
     judged: Judged,

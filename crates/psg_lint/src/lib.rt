@@ -6,8 +6,8 @@
 //! ```
 //!
 //! A text that is no program is read on after the place where it stops to be one: a placeholder takes the place of what
-//! can't be read. Of the program that is left the blamed places are told, as `psg_places` finds them, each with what is
-//! wanted there. Names that nothing declares are told too, and where nothing is wrong, what is still open.
+//! can't be read. Of the program that is left the blamed places are reported, as `psg_places` finds them, each with
+//! what is wanted there. Names that nothing declares are reported too, and where nothing is wrong, what is still open.
 #![tactic(auto)]
 
 mod blaming;

@@ -23,7 +23,7 @@ fn grade_text(grade: Grade) -> &'static str
     }
 }
 
-/// Returns the text that the first so many bytes are.
+/// Returns the text of that many bytes at the front.
 fn front_of(bytes: &[u8], count: usize) -> &str
     requires within { count ≤ length bytes.now }
     requires text { IsUtf8 (take count bytes.now) }

@@ -1,5 +1,6 @@
-//! What is told of a blamed place.
-ghost use Rattle.std.specs.Prelude.{◌≡◌, ◌<◌, ◌≤◌, ◌⊎◌, ◌∷◌, ◌++◌, [], ℕ, IfOk, Some, false, length, slice_get, string_bytes, take};
+//! What is reported about a blamed place.
+ghost use Rattle.std.specs.Prelude.{◌≡◌, ◌<◌, ◌≤◌, ◌⊎◌, ◌∷◌, ◌++◌, [], ℕ, IfOk, Some, false, length, slice_get};
+ghost use Rattle.std.specs.Prelude.{string_bytes, take};
 ghost use Rattle.psg_grammar.specs.Fragments.{Fragment};
 ghost use Rattle.psg_grammar.specs.Lookups.{operator_at};
 ghost use Rattle.psg_grammar.specs.Paths.{node_at};
@@ -73,7 +74,8 @@ fn wanted_at<L: Ledger>(
     requires there { (node : Fragment) × (node_at (opened (def_of wrong) (kept_in (take number wrong.kept.now))
         (fresh_of wrong) (tree_in wrong)) own.now ≡ Some node) }
     ensures values { IfOk result (λ terms. AreValues (def_of wrong.entry) (opened (def_of wrong.entry)
-        (kept_in (take number wrong.entry.kept.now)) (fresh_of wrong.entry) (tree_in wrong.entry)) own.now terms.items) }
+        (kept_in (take number wrong.entry.kept.now)) (fresh_of wrong.entry) (tree_in wrong.entry)) own.now
+        terms.items) }
     ensures sorted { IfOk result (λ terms. AreSorted (def_of wrong.entry).signature terms.items) }
 {
     let judged = wrong.judged;
@@ -92,7 +94,8 @@ fn found_at<L: Ledger>(
     requires wrong { IsWrong wrong }
     requires there { (node : Fragment) × (node_at (tree_in wrong) path.now ≡ Some node) }
     ensures values { IfOk result (λ terms. (node : Fragment) → node_at (tree_in wrong.entry) path.now ≡ Some node
-        → AreValues (def_of wrong.entry) (opened (def_of wrong.entry) is_first (fresh_of wrong.entry) node) [] terms.items) }
+        → AreValues (def_of wrong.entry) (opened (def_of wrong.entry) is_first (fresh_of wrong.entry) node) []
+        terms.items) }
     ensures sorted { IfOk result (λ terms. AreSorted (def_of wrong.entry).signature terms.items) }
 {
     let judged = wrong.judged;
@@ -138,7 +141,7 @@ fn declares_by(judged: Judged, op: u32) -> bool
     }
 }
 
-/// Tells that no further element fits, or of an operator that declares that it does not.
+/// Says that no further element fits, or, of an operator that declares, that it does not.
 fn of_operator(alloc: Global, judged: Judged, op: u32) -> Result<String, AllocError>
     requires judged { IsJudged judged }
     ensures { IfOk result (λ message. string_bytes message ≡ blamed.operator_message judged.entry.definition.now
@@ -244,7 +247,8 @@ fn wanted_entities<L: Ledger>(
 ) -> Result<Vec<Term>, AllocError>
     requires wrong { IsWrong wrong }
     ensures values { IfOk result (λ terms. AreKeyValues (def_of wrong.entry) (opened (def_of wrong.entry)
-        (kept_in kept.now) (fresh_of wrong.entry) (tree_in wrong.entry)) (space ∷ fresh_of wrong.entry number) terms.items) }
+        (kept_in kept.now) (fresh_of wrong.entry) (tree_in wrong.entry))
+        (space ∷ fresh_of wrong.entry number) terms.items) }
     ensures sorted { IfOk result (λ terms. AreSorted (def_of wrong.entry).signature terms.items) }
 {
     let judged = wrong.judged;
@@ -256,7 +260,7 @@ fn wanted_entities<L: Ledger>(
     Ok(terms)
 }
 
-/// Tells of a name that is used and has a new name in the tree of the answers: what is wanted there.
+/// Says what is reported about a name that is used and has a new name in the tree of the answers: what is wanted there.
 pub(crate) fn use_message<L: Ledger>(
     alloc: Global,
     wrong: Wrong,
@@ -283,7 +287,7 @@ pub(crate) fn use_message<L: Ledger>(
     Ok(message)
 }
 
-/// Tells of a name that is declared.
+/// Says what is reported about a name that is declared.
 fn of_declared(alloc: Global, judged: Judged, name: &Written) -> Result<String, AllocError>
     requires judged { IsJudged judged }
     ensures { IfOk result (λ message. (r : Read) → IsSpotsOf judged.entry.spots r
@@ -338,7 +342,7 @@ fn of_name<L: Ledger>(
     Ok(message)
 }
 
-/// Tells of the blamed place of the number.
+/// Says what is reported about the blamed place of the number.
 pub(crate) fn message_of<L: Ledger>(
     alloc: Global,
     wrong: Wrong,

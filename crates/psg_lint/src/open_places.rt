@@ -1,5 +1,6 @@
-//! What is told of the placeholders and the unfinished lists of a program.
-ghost use Rattle.std.specs.Prelude.{◌≡◌, ◌<◌, ◌++◌, ◌∷◌, [], ℕ, Bool, IfOk, List, OnOk, Some, codes, false, length, slice_get, string_bytes};
+//! What is reported about the placeholders and the unfinished lists of a program.
+ghost use Rattle.std.specs.Prelude.{◌≡◌, ◌<◌, ◌++◌, ◌∷◌, [], ℕ, Bool, IfOk, List, OnOk, Some, codes, false, length};
+ghost use Rattle.std.specs.Prelude.{slice_get, string_bytes};
 ghost use Rattle.psg_grammar.specs.Fragments.{hole, operator};
 ghost use Rattle.psg_grammar.specs.Marks.{nodes_below, nodes_from};
 ghost use Rattle.psg_grammar.specs.Paths.{IsList, node_at};
@@ -54,7 +55,7 @@ fn has_one_value(own: Open, sort: SortId) -> bool
     }
 }
 
-/// Says whether nothing is told of the values of a placeholder of the phylum.
+/// Says whether nothing is reported about the values of a placeholder of the phylum.
 fn is_plain_hole(own: Open, phylum: &Phylum, values: &[Term]) -> bool
     ensures { result ≡ is_plain own.entry.judged.definition.now phylum.now values.now }
 {
@@ -81,7 +82,7 @@ fn wanted_text(
     Ok(text)
 }
 
-/// Writes what is told of a placeholder of the phylum.
+/// Writes what is reported about a placeholder of the phylum.
 fn hole_text(
     alloc: Global,
     own: Open,
@@ -112,7 +113,7 @@ fn phylum_of<'a>(own: Open<'a>, number: u32) -> &'a Phylum
     &own.judged.definition.phyla.as_slice()[number as usize]
 }
 
-/// Returns what is told of the placeholder at the path.
+/// Returns what is reported about the placeholder at the path.
 fn told_hole<L: Ledger>(
     alloc: Global,
     own: Open,
@@ -139,7 +140,7 @@ fn told_hole<L: Ledger>(
     Ok(told)
 }
 
-/// Returns what is told of the list at the path, which is unfinished.
+/// Returns what is reported about the list at the path, which is unfinished.
 fn told_list<L: Ledger>(
     alloc: Global,
     own: Open,
@@ -177,7 +178,7 @@ fn told_list<L: Ledger>(
     Ok(told)
 }
 
-/// Adds what is told of the list at the path, if it is unfinished.
+/// Adds what is reported about the list at the path, if it is unfinished.
 fn tell_list<L: Ledger>(
     alloc: Global,
     own: Open,
@@ -203,7 +204,7 @@ fn tell_list<L: Ledger>(
     Ok(())
 }
 
-/// Adds what is told of the part of the operator at the path, which has so many children before it.
+/// Adds what is reported about the part of the operator at the path, which has that many children before it.
 #[cycle(opens)]
 fn tell_part<L: Ledger>(
     alloc: Global,
@@ -232,7 +233,7 @@ fn tell_part<L: Ledger>(
     }
 }
 
-/// Adds what is told of the parts of the operator at the path.
+/// Adds what is reported about the parts of the operator at the path.
 #[cycle(opens)]
 fn tell_parts<L: Ledger>(
     alloc: Global,
@@ -258,7 +259,7 @@ fn tell_parts<L: Ledger>(
     Ok(())
 }
 
-/// Adds what is told of the elements of the list at the path.
+/// Adds what is reported about the elements of the list at the path.
 #[cycle(opens)]
 fn tell_elements<L: Ledger>(
     alloc: Global,
@@ -281,7 +282,7 @@ fn tell_elements<L: Ledger>(
     Ok(())
 }
 
-/// Adds what is told of the node at the path and of those below it.
+/// Adds what is reported about the node at the path and about those below it.
 #[cycle(opens)]
 fn tell_node<L: Ledger>(
     alloc: Global,

@@ -47,13 +47,13 @@ use std::sync::ledger::Ledger;
 /// All that is found in the bytes of a program file.
 #[derive(Debug, Drop)]
 pub struct Report {
-    /// What is found, by byte; of one byte errors come first, then warnings.
+    /// What is found, by byte; of one byte errors are first, then warnings.
     pub found: Vec<Finding>,
     /// Whether more may follow: a hundred places are blamed.
     pub more: bool,
 }
 
-/// Returns a number that is smaller for what is told first.
+/// Returns a number that is smaller for what is reported first.
 fn rank(grade: Grade) -> u8
     ensures { result ≡ findings.rank grade }
 {
@@ -240,7 +240,7 @@ fn goal(reader: Reader) -> Goal
     }
 }
 
-/// Adds what is told of tokens that were not read: that they are too deep.
+/// Adds what is reported about tokens that were not read: that they are too deep.
 fn tell_unread(
     alloc: Global,
     linting: Linting,
@@ -387,9 +387,9 @@ fn lint_text<L: Ledger>(
     }
 }
 
-/// Finds all that is to be told of the bytes of a file that is to be a program of the kind: where they are no text, where
-/// they stop to be a program, which values can't be, which names nothing declares, and where nothing is wrong, what is
-/// still open. It fails where memory runs out.
+/// Finds all that is to be told of the bytes of a file that is to be a program of the kind: where they are no text,
+/// where they stop to be a program, which values can't be, which names nothing declares, and where nothing is wrong,
+/// what is still open. It fails where memory runs out.
 pub fn lint<L: Ledger>(
     alloc: Global,
     language: &Language,

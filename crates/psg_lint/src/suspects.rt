@@ -1,5 +1,6 @@
 //! Declarations that explain all that is wrong.
-ghost use Rattle.std.specs.Prelude.{◌≡◌, ◌<◌, ◌≤◌, ◌++◌, ◌↔◌, ℕ, IfOk, List, OnOk, Some, codes, cond, false, length, slice_get, true};
+ghost use Rattle.std.specs.Prelude.{◌≡◌, ◌<◌, ◌≤◌, ◌++◌, ◌↔◌, ℕ, IfOk, List, OnOk, Some, codes, cond, false, length};
+ghost use Rattle.std.specs.Prelude.{slice_get, true};
 ghost use Rattle.psg_places.specs.Blame as blame;
 ghost use Rattle.psg_places.specs.Ways.{goes_through};
 ghost use Rattle.psg_places.specs.declared.place.Place.{Place as PlainPlace};
@@ -11,7 +12,8 @@ ghost use Rattle.psg_recover.specs.declared.finding.Finding.{Finding as Told};
 ghost use Rattle.psg_uses.specs.Naming.{path_of_place};
 ghost use Rattle.psg_uses.specs.declared.names.Written.{Written as Plain};
 ghost use Rattle.psg_lint.specs.Judged.{IsWrong, def_of, fresh_of, tree_in};
-ghost use Rattle.psg_lint.specs.Suspects.{AreOutside, AreSuspected, IsContent, IsDeclaration, IsExplaining, IsSuspected};
+ghost use Rattle.psg_lint.specs.Suspects.{AreOutside, AreSuspected, IsContent, IsDeclaration, IsExplaining};
+ghost use Rattle.psg_lint.specs.Suspects.{IsSuspected};
 ghost use Rattle.psg_lint.specs.Suspects.{one_or_none};
 
 use crate::trials::{Wrong, can_be, is_blamed};
@@ -263,8 +265,8 @@ pub(crate) fn blamed_in(kept: &[bool]) -> usize
     total
 }
 
-/// Adds a note for each declaration that explains all that is wrong: where two places or more are blamed, none of them in
-/// the declaration, and all but its contents can be kept.
+/// Adds a note for each declaration that explains all that is wrong: where two places or more are blamed, none of them
+/// in the declaration, and all but its contents can be kept.
 pub(crate) fn tell_suspects<L: Ledger>(
     alloc: Global,
     wrong: Wrong,

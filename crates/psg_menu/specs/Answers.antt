@@ -21,15 +21,15 @@ use Rattle.psg_menu.specs.Menus.{IsChoosable, IsFreshTrial, IsMenu, AreNameable,
 
 module _ (def : Definition) where
   module _ (IsGood : Fragment → Type 0) (f : Fragment) (path : Path) (k : Option ℕ) where
-    -- The operators that may be chosen; where the fragment itself is not too wide, no trial is. Or the answer says that
-    -- a trial is too wide.
+    -- The operators that may be chosen; if the fragment itself is not too wide, no trial is. Or the answer says that a
+    -- trial is too wide.
     abbrev pub IsMenuAnswer : ℕ → Result (Vec ℕ Global) FocusFault → Type 0
     IsMenuAnswer p (Ok ops) =
         IsMenu def f path k IsGood p ops.items × ((IsWide def f → ⊥) → HasWideTrial def f path k p → ⊥)
     IsMenuAnswer p (Err questions.Wide) = HasWideTrial def f path k p
     IsMenuAnswer p (Err questions.Memory) = Unit {0}
 
-    -- The candidates that may be the name of the operator, which has one; where the fragment itself is not too wide, no
+    -- The candidates that may be the name of the operator, which has one; if the fragment itself is not too wide, no
     -- trial is. Or the answer says that a trial is too wide.
     abbrev pub IsNamesAnswer : ℕ → List Name → Result (Vec Name Global) FocusFault → Type 0
     IsNamesAnswer o candidates (Ok names) =

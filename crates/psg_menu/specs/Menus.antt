@@ -38,7 +38,7 @@ operators_from n p (o ∷ rest) = cond (o.phylum == p) (n ∷ operators_from (n 
 abbrev pub operators_of : Definition → ℕ → List ℕ
 operators_of def p = operators_from 0 p def.operators
 
--- a list may declare, and a phylum in no space
+-- a list may declare; a phylum declares in no space
 abbrev pub IsQuiet : Definition → Kind → Type 0
 IsQuiet def (kinds.Phylum p) = HasHoles def (kinds.Phylum p)
 IsQuiet def (kinds.List l) = Unit {0}
@@ -52,15 +52,14 @@ HasQuietSlots def = (o : ℕ) (op : Operator) → slice_get def.operators o ≡ 
 abbrev pub AreUsed : List Name → Fragment → Type 0
 AreUsed used f = AllByRecursion (λ n. is_among used n ≡ true) (occurring f)
 
--- The place is that of the node at the path, or, where k is given, that of a new element before the element k of the
--- list.
+-- The place is that of the node at the path, or, if k is given, that of a new element before the element k of the list.
 module _ (def : Definition) (f : Fragment) (path : Path) (k : Option ℕ) where
   -- the operator may be put there with these leaves, whose names are new
   pub record IsFreshTrial (o : ℕ) (leaves : List Leaf) : Type 0 where
     pub are_leaves : AreLeaves def (items_of (operator_at def o)) leaves
     pub fresh : AreFresh (occurring f) (leaf_names leaves)
 
-  -- with this name at its one position, and some literals
+  -- the operator may be put there with this name at its one position, and these literals
   pub record IsNamedTrial (o : ℕ) (n : Name) (leaves : List Leaf) : Type 0 where
     pub are_leaves : AreLeaves def (items_of (operator_at def o)) leaves
     pub named : leaf_names leaves ≡ n ∷ []
@@ -94,7 +93,7 @@ module _ (def : Definition) (f : Fragment) (path : Path) (k : Option ℕ) where
     pub trial : IsFreshTrial op leaves
     pub wide : IsWide def (with_operator def f path k op leaves)
 
-  -- that of a trial of the operator with one of the candidates is
+  -- the tree of a trial of the operator with one of the candidates is too wide
   pub record HasWideNaming (o : ℕ) (candidates : List Name) : Type 0 where
     pub name : Name
     pub there : IsIn name candidates

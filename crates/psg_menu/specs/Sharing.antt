@@ -166,8 +166,8 @@ module _ (def : Definition) where
     pub there : IsIn name candidates
     pub fails : (u t : Fragment) → Leads done u t → IsNamed o below name t → OwnFails u
 
-  -- How a candidate goes on over an evaluation: with the summary that it has, which it may share only where it is not
-  -- met, or under its own name.
+  -- How a candidate goes on over an evaluation: with the summary that it has, which it may share only if it is not met,
+  -- or under its own name.
   pub data GoesOn (rise : Rise) (star n : Name) (old : Entry) : Bool → Result SummaryParts EvalFault → Type 0 where
     straight : (result : Result SummaryParts EvalFault)
         → (old.shared ≡ true → (meets rise n ≡ false) × (meets rise star ≡ false))

@@ -28,7 +28,7 @@ use psg_terms::{Steps, Txt};
 use std::alloc::{AllocError, Global};
 use std::sync::ledger::Ledger;
 
-/// The numbers of the operators of the phylum, in the definition's order.
+/// Returns the numbers of the operators of the phylum, in the definition's order.
 fn of_phylum(alloc: Global, definition: &Definition, phylum: u32) -> Result<Vec<u32>, AllocError>
     requires { IsSound definition.now }
     ensures { IfOk result (λ ops. ops.items ≡ operators_of definition.now phylum) }
@@ -101,7 +101,7 @@ fn offered<L: Ledger>(
     Ok(good)
 }
 
-/// Those of the operators that may be chosen, in their order.
+/// Returns those of the operators that may be chosen, in their order.
 fn chosen<L: Ledger>(
     alloc: Global,
     menu: Menu,
@@ -177,8 +177,8 @@ pub fn operators<L: Ledger>(
 
 /// Says whether the operator may be put at the place that the frames are around: whether with it, with new names and
 /// some literals, the fragment is open. `used` are the names that are not new. `Wide` is returned only where a relation
-/// of the fragment with the operator is too large, and always where besides none of the fragment itself is. It takes one
-/// tick, one for each slot of the operator, and those of a climb, or fewer.
+/// of the fragment with the operator is too large, and always where besides none of the fragment itself is. It takes
+/// one tick, one for each slot of the operator, and those of a climb, or fewer.
 pub fn fits<L: Ledger>(
     alloc: Global,
     definition: &Definition,

@@ -124,7 +124,7 @@ fn meets(rung: Rung, name: &Txt) -> bool
     }
 }
 
-/// The summary of the rung's node from that of its child.
+/// Makes the summary of the rung's node from that of its child.
 fn raise<L: Ledger>(
     alloc: Global,
     definition: &Definition,
@@ -186,7 +186,7 @@ fn parts(way: Way, name: &Txt, old: &Entry) -> bool
     meets(way.rung, name)
 }
 
-/// The place above the rung of the summary that is made of this one.
+/// Returns the place above the rung of the summary that is made of this one.
 fn raised_entry<L: Ledger>(
     alloc: Global,
     way: Way,
@@ -205,7 +205,8 @@ fn raised_entry<L: Ledger>(
     ensures usual { (kind up : PlainKind) → CanRise way.entry.definition.now (rise_of way.entry.rung) kind up
         → IsUsual way.entry.definition.now kind own.now
         → AllByRecursion (λ (e : Entry). IsUsual way.entry.definition.now up e.own) above.old.all.items
-        → IfOk result (λ _. AllByRecursion (λ (e : Entry). IsUsual way.entry.definition.now up e.own) above.new.all.items) }
+        → IfOk result (λ _. AllByRecursion (λ (e : Entry). IsUsual way.entry.definition.now up e.own)
+        above.new.all.items) }
     ensures ticks { steps.new ≤ steps.old + 1 }
 {
     let made = raise(alloc, way.definition, way.tables, way.rung, own, steps);
@@ -214,7 +215,7 @@ fn raised_entry<L: Ledger>(
     Ok(to)
 }
 
-/// The place above the rung of the summary that a candidate has at this place below it.
+/// Returns the place above the rung of the summary that a candidate has at this place below it.
 fn raised_from<L: Ledger>(
     alloc: Global,
     way: Way,
@@ -241,7 +242,8 @@ fn raised_from<L: Ledger>(
     ensures usual { (kind up : PlainKind) → CanRise way.entry.definition.now (rise_of way.entry.rung) kind up
         → AllByRecursion (λ (e : Entry). IsUsual way.entry.definition.now kind e.own) below.now
         → AllByRecursion (λ (e : Entry). IsUsual way.entry.definition.now up e.own) above.old.all.items
-        → IfOk result (λ _. AllByRecursion (λ (e : Entry). IsUsual way.entry.definition.now up e.own) above.new.all.items) }
+        → IfOk result (λ _. AllByRecursion (λ (e : Entry). IsUsual way.entry.definition.now up e.own)
+        above.new.all.items) }
     ensures moves { IfOk result (λ _. AllByRecursion
         (IsMove way.entry.definition.now (rise_of way.entry.rung) below.now above.new.all.items) moves.new.all.items) }
     ensures ticks { steps.new ≤ steps.old + 1 }
@@ -272,7 +274,7 @@ pub(crate) struct Level {
     pub(crate) places: Vec<usize>,
 }
 
-/// The level above the rung.
+/// Makes the level above the rung.
 fn next_level<L: Ledger>(
     alloc: Global,
     way: Way,
@@ -321,7 +323,7 @@ fn next_level<L: Ledger>(
     })
 }
 
-/// The level above one rung.
+/// Makes the level above one rung.
 fn over_rung<L: Ledger>(
     alloc: Global,
     definition: &Definition,
@@ -356,7 +358,7 @@ fn over_rung<L: Ledger>(
     next_level(alloc, way, candidates, level, steps)
 }
 
-/// The level of a list above that of an element.
+/// Makes the level of a list from that of an element.
 fn over_list<L: Ledger>(
     alloc: Global,
     definition: &Definition,
@@ -400,7 +402,7 @@ fn over_list<L: Ledger>(
     Ok(whole)
 }
 
-/// The level above one frame.
+/// Makes the level above one frame.
 fn over_frame<L: Ledger>(
     alloc: Global,
     definition: &Definition,
@@ -450,7 +452,7 @@ fn over_frame<L: Ledger>(
     }
 }
 
-/// The first level, in which all candidates share one summary.
+/// Makes the first level, in which all candidates share one summary.
 fn first_level(alloc: Global, own: Summary, count: usize) -> Result<Level, AllocError>
     ensures entries { IfOk result (λ level. level.entries.items ≡ record { own = own; shared = true } ∷ []) }
     ensures places { IfOk result (λ level. level.places.items ≡ replicate count 0) }
@@ -464,9 +466,9 @@ fn first_level(alloc: Global, own: Summary, count: usize) -> Result<Level, Alloc
     Ok(Level { entries, places })
 }
 
-/// The summaries of the whole fragment with the candidates at the place of the frames, from that of the tree there
-/// under the proxy for them all. Each frame's rungs are evaluated once for all candidates that share a
-/// summary, and once for each other summary.
+/// Returns the summaries of the whole fragment with the candidates at the place of the frames, from that of the tree
+/// there under the proxy for them all. Each frame's rungs are evaluated once for all candidates that share a summary,
+/// and once for each other summary.
 pub(crate) fn climbed_together<L: Ledger>(
     alloc: Global,
     definition: &Definition,

@@ -10,7 +10,8 @@ version = string (codes "2.0")
 
 -- the answer to a request with this id
 abbrev pub answer_of : Data → Data → Data
-answer_of id value = object (member (codes "id") id (member (codes "jsonrpc") version (member (codes "result") value no_members)))
+answer_of id value = object (member (codes "id") id
+    (member (codes "jsonrpc") version (member (codes "result") value no_members)))
 
 -- the id of what is refused, or null where there is none
 abbrev pub id_or_null : Option Data → Data
@@ -20,7 +21,8 @@ id_or_null (Some id) = id
 -- a fault with its message
 abbrev pub fault_of : Fault → List ℕ → Data
 fault_of fault message =
-    object (member (codes "code") (number (of_integer (code_of fault))) (member (codes "message") (string message) no_members))
+    object (member (codes "code") (number (of_integer (code_of fault)))
+    (member (codes "message") (string message) no_members))
 
 -- the answer to a message that is refused
 abbrev pub refusal_of : Option Data → Fault → List ℕ → Data

@@ -2,7 +2,8 @@
 use Rattle.std.specs.Prelude.{ℕ, List, Bool, true, false, Option, Some, None, ◌≡◌, ◌||◌, codes, is_some, if◌then◌else◌}
 use Rattle.std.specs.Option.{option_map}
 use Rattle.std.specs.Str.{IsUtf8}
-use Rattle.serde_json.specs.Data.{Num, unsigned, negative, float, Data, null, boolean, number, string, array, object, Items, no_items, item, Members, no_members, member}
+use Rattle.serde_json.specs.Data.{Num, unsigned, negative, float, Data, null, boolean, number, string, array, object}
+use Rattle.serde_json.specs.Data.{Items, no_items, item, Members, no_members, member}
 use Rattle.serde_json.specs.Find.{as_str, get}
 use Rattle.serde_json.specs.Read.{read as read_text}
 use Rattle.serde_json.specs.View.{view}
@@ -72,7 +73,8 @@ said_method (Some method) d = said_with (get (codes "id") d) method (given_by (g
 -- a message by its member `method`
 abbrev pub said_by : Option Data → Data → Said
 said_by None d =
-    if is_some (get (codes "result") d) || is_some (get (codes "error") d) then answer else wrong (id_by (get (codes "id") d))
+    if is_some (get (codes "result") d) || is_some (get (codes "error") d) then answer
+    else wrong (id_by (get (codes "id") d))
 said_by (Some m) d = said_method (as_str m) d
 
 abbrev pub said : Data → Said

@@ -1,5 +1,6 @@
 -- What a message gets, by where the conversation is.
-use Rattle.std.specs.Prelude.{ℕ, ℤ, List, Bool, true, false, Option, Some, None, ◌&&◌, not, codes, negsuc, if◌then◌else◌}
+use Rattle.std.specs.Prelude.{ℕ, ℤ, List, Bool, true, false, Option, Some, None, ◌&&◌, not, codes, negsuc}
+use Rattle.std.specs.Prelude.{if◌then◌else◌}
 use Rattle.std.specs.Option.{option_map}
 use Rattle.std.specs.Str.{bytes_eq}
 use Rattle.serde_json.specs.Data.{Data}
@@ -31,15 +32,18 @@ are_wrong nothing = false
 are_wrong (fields d) = false
 are_wrong wrong_params = true
 
--- of a request that may come now
+-- of a request that is allowed now
 abbrev pub due_known : Data → Bool → Bool → Due
 due_known id known ill =
-    if known then (if ill then refused (Some id) faults.WrongParams else served) else refused (Some id) faults.UnknownMethod
+    if known then (if ill then refused (Some id) faults.WrongParams else served)
+    else refused (Some id) faults.UnknownMethod
 
--- Before `initialize` no other request may come, after it no second one, and after `shutdown` none.
+-- Before `initialize` no other request is allowed, after it no second one, and after `shutdown` none.
 abbrev pub due_request : Phase → Data → (starts known ill : Bool) → Due
-due_request phases.Before id starts known ill = if starts then due_known id known ill else refused (Some id) faults.NotInitialized
-due_request phases.Ready id starts known ill = if starts then refused (Some id) faults.WrongShape else due_known id known ill
+due_request phases.Before id starts known ill = if starts then due_known id known ill
+    else refused (Some id) faults.NotInitialized
+due_request phases.Ready id starts known ill = if starts then refused (Some id) faults.WrongShape
+    else due_known id known ill
 due_request phases.After id starts known ill = refused (Some id) faults.WrongShape
 
 abbrev pub is_ready : Phase → Bool
@@ -47,14 +51,15 @@ is_ready phases.Before = false
 is_ready phases.Ready = true
 is_ready phases.After = false
 
--- A note gets no answer. As the protocol has it, notes outside of a conversation are dropped, but for `exit`, which is
+-- A note gets no answer. As the protocol has it, notes outside of a conversation are dropped, except `exit`, which is
 -- served at any time, whatever its parameters are.
 abbrev pub due_note : (exits ready known ill : Bool) → Due
 due_note exits ready known ill = if exits then served else if ready && known && not ill then served else passed
 
 -- `known` says whether the server has the message's method
 abbrev pub due : Phase → Bool → Said → Due
-due phase known (request id method given) = due_request phase id (bytes_eq method (codes "initialize")) known (are_wrong given)
+due phase known (request id method given) = due_request phase id (bytes_eq method (codes "initialize")) known
+    (are_wrong given)
 due phase known (note method given) = due_note (bytes_eq method (codes "exit")) (is_ready phase) known (are_wrong given)
 due phase known answer = passed
 due phase known (wrong id) = refused id faults.WrongShape
@@ -71,7 +76,8 @@ abbrev pub phase_by : Phase → (starts ends : Bool) → Phase
 phase_by phase starts ends = if starts then phases.Ready else if ends then phases.After else phase
 
 abbrev pub phase_served : Phase → Said → Phase
-phase_served phase (request id method given) = phase_by phase (bytes_eq method (codes "initialize")) (bytes_eq method (codes "shutdown"))
+phase_served phase (request id method given) = phase_by phase (bytes_eq method (codes "initialize"))
+    (bytes_eq method (codes "shutdown"))
 phase_served phase (note method given) = phase
 phase_served phase answer = phase
 phase_served phase (wrong id) = phase

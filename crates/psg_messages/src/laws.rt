@@ -8,7 +8,8 @@ ghost use Rattle.psg_messages.specs.declared.turns.Fault.{Fault};
 /// Shows that the other side reads answers as answers, and a note as the note that it is.
 pub fn messages_come_back()
     ensures answers { (id value : Data) → said (answer_of id value) ≡ answer }
-    ensures refusals { (id : Option Data) (fault : Fault) (message : List ℕ) → said (refusal_of id fault message) ≡ answer }
+    ensures refusals { (id : Option Data) (fault : Fault) (message : List ℕ)
+        → said (refusal_of id fault message) ≡ answer }
     ensures notes { (method : List ℕ) (members : Members)
         → said (note_of method (object members)) ≡ note method (fields (object members)) }
 {}

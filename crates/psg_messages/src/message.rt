@@ -4,7 +4,8 @@ ghost use Rattle.std.specs.Option.{option_map};
 ghost use Rattle.serde_json.specs.Data.{Data, array};
 ghost use Rattle.serde_json.specs.Find.{get};
 ghost use Rattle.serde_json.specs.View.{items_view, number_view, view};
-ghost use Rattle.psg_messages.specs.Messages.{IsValueOf, answer, given_by, given_in, given_of, id_by, is_id, is_whole, said, said_of};
+ghost use Rattle.psg_messages.specs.Messages.{IsValueOf, answer, given_by, given_in, given_of, id_by, is_id, is_whole};
+ghost use Rattle.psg_messages.specs.Messages.{said, said_of};
 ghost use Rattle.psg_messages.specs.Messages.{said_with, wrong};
 
 use serde_json::{Number, Value};
@@ -76,7 +77,8 @@ pub fn message_of(value: &Value) -> Message<'_>
 
 /// Returns what the value says, which has no method.
 fn without_method(value: &Value) -> Message<'_>
-    ensures { said_of result ≡ (if is_some (get (codes "result") (view value.now)) || is_some (get (codes "error") (view value.now))
+    ensures { said_of result ≡ (if is_some (get (codes "result") (view value.now))
+        || is_some (get (codes "error") (view value.now))
         then answer else wrong (id_by (get (codes "id") (view value.now)))) }
 {
     if value.get("result").is_some() || value.get("error").is_some() {

@@ -38,7 +38,7 @@ impl Phase {
 pub enum Fault {
     /// The body is no JSON.
     NoJson,
-    /// The value is no message, or may not come now.
+    /// The value is no message, or is not allowed now.
     WrongShape,
     /// The server has no such method.
     UnknownMethod,
@@ -158,7 +158,7 @@ fn turn_of_request(phase: Phase, id: &Value, starts: bool, known: bool, ill: boo
     }
 }
 
-/// Returns what a request gets that may come now.
+/// Returns what a request gets that is allowed now.
 fn turn_of_known(id: &Value, known: bool, ill: bool) -> Turn<'_>
     ensures { due_of result ≡ due_known (view id.now) known ill }
 {

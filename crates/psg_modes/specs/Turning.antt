@@ -66,7 +66,7 @@ line_at text top (Some b) = count_by is_feed (take b.start text)
 abbrev pub page_from : Printed → Face → ℕ
 page_from p f = line_at p.text f.top (span_at p.spans f.chosen)
 
--- a screen, but for one line that is shown in both windows
+-- a screen, except one line that is shown in both windows
 abbrev pub page_step : Face → ℕ
 page_step f = max (f.rows - 6) 1
 
@@ -104,7 +104,7 @@ page_path p f down =
     (span_or (first_from (line_from 0 0 (page_line p f down) p.text) p.spans)
     (slice_get p.spans (length p.spans - 1)))
 
--- n and N, and the keys that are told of by themselves
+-- n and N, and the keys that have definitions of their own
 abbrev pub is_wrong_key : Key → Bool
 is_wrong_key (keys.Char c) = (c == 110) || (c == 78)
 is_wrong_key _ = false
@@ -186,7 +186,7 @@ line_key f key = typed_key f key
 abbrev pub pick_before : Face → Face
 pick_before f = record f { pick = f.pick - 1 }
 
--- the next one of so many, if there is one
+-- the next one of that many, if there is one
 abbrev pub later_pick : ℕ → ℕ → ℕ
 later_pick pick count = max pick (min (pick + 1) (count - 1))
 
@@ -267,7 +267,7 @@ named_key def f key = narrowed f key
 abbrev pub page_rows : Face → ℕ
 page_rows f = f.rows - 5
 
--- so many lines further down, with as many rows filled as there are
+-- that many lines further down, with as many rows filled as there are
 abbrev pub page_down : ℕ → ℕ → ℕ → ℕ → ℕ
 page_down top step count rows = min (top + step) (min (count - rows) (2 ^ 32 - 1))
 

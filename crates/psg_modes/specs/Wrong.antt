@@ -105,7 +105,8 @@ why_at f (places.Element path) = of_element
 why_at f (places.End path) = of_end
 why_at f (places.Name path n) = name_why (slice_get (names_at (node_at f path)) n)
 
--- the first of the places that has this path; what is wrong at another one of this path is told once this one is mended
+-- the first of the places that has this path; what is wrong at another one of this path is reported once this one is
+-- mended
 abbrev pub place_of : List Place → Path → Option Place
 place_of [] path = None
 place_of (place ∷ places) path = cond (bytes_eq (place_path place) path) (Some place) (place_of places path)

@@ -111,7 +111,7 @@ fn line_wanted(printed: &Printed, face: &Face, down: bool) -> usize
     }
 }
 
-/// Returns how many lines a screen is, but for one that is shown in both windows.
+/// Returns how many lines a screen is, except one that is shown in both windows.
 fn page_step(rows: u32) -> usize
     ensures { result ≡ max (rows - 6) 1 }
 {

@@ -51,7 +51,7 @@ pub fn leaf_at(
     }
 }
 
-/// Returns the name or literal of this number of the operator, if it has so many.
+/// Returns the name or literal of this number of the operator, if it has that many.
 fn leaf_of(
     alloc: Global,
     definition: &Definition,
@@ -66,7 +66,7 @@ fn leaf_of(
 }
 
 /// Does a key while the names and literals of an operator are typed: up and down pick a name, Tab puts it into the
-/// line, and Enter takes the line, if something is typed, but for the last one, which is a command. It fails where
+/// line, and Enter takes the line, if something is typed, except the last one, which is a command. It fails where
 /// memory runs out, and the face is then as before.
 pub fn name_key(
     alloc: Global,

@@ -87,14 +87,14 @@ fn leave_page(alloc: Global, face: &mut Face)
     face.enter(alloc, Mode::Browsing);
 }
 
-/// Scrolls the page up by so many lines.
+/// Scrolls the page up by that many lines.
 fn scroll_up(face: &mut Face, step: u32)
     ensures { face_of face.new ≡ turning.scrolled_up (face_of face.old) step }
 {
     face.page_top = face.page_top.saturating_sub(step);
 }
 
-/// Scrolls the page down by so many lines.
+/// Scrolls the page down by that many lines.
 fn scroll_down(face: &mut Face, step: u32)
     ensures { face_of face.new ≡ turning.scrolled_down (face_of face.old) step }
 {
@@ -102,7 +102,7 @@ fn scroll_down(face: &mut Face, step: u32)
     face.page_top = page_down(face.page_top, step, face.page.as_slice().len(), rows);
 }
 
-/// Returns the line so many further down, with as many rows filled as there are.
+/// Returns the number of the line that many lines further down, with as many rows filled as there are.
 fn page_down(top: u32, step: u32, count: usize, rows: u32) -> u32
     ensures { result ≡ turning.page_down top step count rows }
 {

@@ -72,7 +72,7 @@ fn count_shown(alloc: Global, face: &Face) -> Result<usize, AllocError>
     Ok(offers.len())
 }
 
-/// Returns the number after this one, of so many.
+/// Returns the number after this one, of that many.
 fn later_pick(pick: usize, count: usize) -> usize
     ensures { result ≡ turning.later_pick pick count }
 {

@@ -144,8 +144,9 @@ fn one_of<'a>(near: Option<&'a Path>, far: Option<&'a Path>) -> Option<&'a Path>
     }
 }
 
-/// Returns the next of the paths in the order of the text after this path, round at the end; or the one before, round
-/// at the beginning. The paths may be in any order. `None` where there are none. It passes them twice.
+/// Returns the next of the paths in the order of the text after this path, and after the last one the first; or the one
+/// before, and before the first one the last at the beginning. The paths may be in any order. `None` where there are
+/// none. It passes them twice.
 pub fn next_of<'a>(paths: &'a [Path], path: &Path, forward: bool) -> Option<&'a Path>
     ensures { option_copied result ≡ wrong.next_of paths.now path.now forward }
 {

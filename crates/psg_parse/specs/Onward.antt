@@ -1,4 +1,4 @@
--- What may come after a state of the parser: any tokens with which what is left to do gives a tree, whatever the parser
+-- What may follow a state of the parser: any tokens with which what is left to do gives a tree, whatever the parser
 -- would look at. And that something always may.
 use Rattle.std.specs.Prelude.{◌≡◌, ◌≤◌, ℕ, suc, max, true, false, List, [], ◌∷◌, ◌++◌, Option, Some, slice_get}
 use Rattle.psg_grammar.specs.declared.types.Kind.TheVariants as kinds
@@ -37,7 +37,8 @@ module _ (def : Definition) where
     rest_end : (kind : ListKind) → slice_get def.lists l ≡ Some kind → RestYields l [] (ending l false) 0
     rest_more : (kind : ListKind) (t : Token) → slice_get def.lists l ≡ Some kind → kind.unfinished ≡ true
         → terminal_of def t ≡ fixed kind.separator → RestYields l (t ∷ dots ∷ []) (ending l true) 0
-    rest_next : {r : Fragment} {n : ℕ} {ts : List Token} (kind : ListKind) (t : Token) → slice_get def.lists l ≡ Some kind
+    rest_next : {r : Fragment} {n : ℕ} {ts : List Token} (kind : ListKind) (t : Token)
+        → slice_get def.lists l ≡ Some kind
         → terminal_of def t ≡ fixed kind.separator → SomeYield def r l n ts → RestYields l (t ∷ ts) r n
 
   -- the task takes these tokens and gives the tree with the nesting

@@ -74,13 +74,14 @@ Same Before After = (F : Fragment) (D : ℕ) → Before F D ↔ After F D
 abbrev pub SeesSame : Definition → List Token → List Token → Type 0
 SeesSame def ts us = next_terminal def us ≡ next_terminal def ts
 
--- From one state to another one these tokens are taken, and the next token may have been looked at. Whatever is there in
--- place of the tokens after the next one, the same trees are left; and whatever ends the later state ends the earlier one
--- too.
+-- From one state to another one these tokens are taken, and the next token may have been looked at. Whatever is there
+-- in place of the tokens after the next one, the same trees are left; and whatever ends the later state ends the
+-- earlier one too.
 pub record Moves (def : Definition) (aim : Aim) (st : List Plain) (taken rest : List Token) (to : Aim)
     (on : List Plain) : Type 0 where
   pub same : (us : List Token) → SeesSame def rest us → Same (LeftBy def aim st (taken ++ us)) (LeftBy def to on us)
-  pub back : (us : List Token) (F : Fragment) (D : ℕ) → MayLeave def to on us F D → MayLeave def aim st (taken ++ us) F D
+  pub back : (us : List Token) (F : Fragment) (D : ℕ) → MayLeave def to on us F D
+      → MayLeave def aim st (taken ++ us) F D
   pub ends : IsEndable def → CanEndState def aim st → CanEndState def to on
 
 -- from these tokens on, the state leads to that one
@@ -105,7 +106,7 @@ Leads def from below ts steps.NoTree =
 abbrev pub Steps : Definition → Aim → List Plain → List Token → Step → Type 0
 Steps def aim st ts step = Leads def aim st ts step
 
--- the same of a step that is not the last one
+-- what is said there, of a step that is not the last one
 abbrev pub Goes : Definition → Aim → List Plain → List Token → Step → Type 0
 Goes def aim st ts (steps.Go s) = GoesOn def aim st ts s
 Goes def aim st ts (steps.Done tree) = ⊥

@@ -28,8 +28,8 @@ pub struct Front {
 /// serves to say where `parse` found no tree, for every list of tokens, whatever the depth of the tree.
 ///
 /// With the token after them, or one that the grammar sees as that, they begin no tree. Where all that the definition
-/// has can be ended and the kind has a tree of the level, they do begin one by themselves. Whether all tokens are a tree
-/// is exact for every definition. It fails where memory runs out. Work and memory are linear in the tokens.
+/// has can be ended and the kind has a tree of the level, they do begin one by themselves. Whether all tokens are a
+/// tree is exact for every definition. It fails where memory runs out. Work and memory are linear in the tokens.
 pub fn reach(
     alloc: Global,
     definition: &Definition,
@@ -39,7 +39,8 @@ pub fn reach(
 ) -> Result<Front, AllocError>
     requires class { IsClass definition.now }
     requires table { IsParseTable definition.now table.now }
-    ensures whole { IfOk result (λ r. (r.whole ≡ true) ↔ MayEnd definition.now goal.kind goal.least (tokens_of tokens.now)) }
+    ensures whole { IfOk result (λ r. (r.whole ≡ true)
+        ↔ MayEnd definition.now goal.kind goal.least (tokens_of tokens.now)) }
     ensures inside { IfOk result (λ r. r.tokens ≤ length tokens.now) }
     ensures stops { IfOk result (λ r. StopsAt definition.now goal.kind goal.least (tokens_of tokens.now) r.tokens) }
     ensures stop { IfOk result (λ r. IsEndable definition.now → Begins definition.now goal.kind goal.least []

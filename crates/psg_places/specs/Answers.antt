@@ -1,5 +1,6 @@
 -- What the search for blamed places answers.
-use Rattle.std.specs.Prelude.{ℕ, zero, suc, ◌+◌, ◌≡◌, ◌<◌, ◌≤◌, ◌^◌, ◌⊎◌, ◌↔◌, Bool, true, false, cond, List, [], ◌∷◌, ◌++◌}
+use Rattle.std.specs.Prelude.{ℕ, zero, suc, ◌+◌, ◌≡◌, ◌<◌, ◌≤◌, ◌^◌, ◌⊎◌, ◌↔◌, Bool, true, false, cond, List, [], ◌∷◌}
+use Rattle.std.specs.Prelude.{◌++◌}
 use Rattle.std.specs.Prelude.{length, replicate, Option, Some, None}
 use Rattle.psg_terms.specs.Names.{Name}
 use Rattle.psg_grammar.specs.declared.types.Definition.{Definition}
@@ -23,9 +24,9 @@ use Rattle.psg_places.specs.NewNames.{AreNew, IsFront, new_name}
 use Rattle.psg_places.specs.Opened.{opened}
 use Rattle.psg_places.specs.Places.{place_count}
 
--- The answer: which places are kept, for all choices of new names, and the tree of the kept places for one choice, where
--- a new name is some letters, an a and the number of its place. That tree can take the place of the whole tree, its names
--- can be written if those of the whole tree can, and if nothing is blamed it is the whole tree.
+-- The answer: which places are kept, for all choices of new names, and the tree of the kept places for one choice,
+-- where a new name is some letters, an a and the number of its place. That tree can take the place of the whole tree,
+-- its names can be written if those of the whole tree can, and if nothing is blamed it is the whole tree.
 pub record IsFound (IsGood : Fragment → Type 0) (def : Definition) (f : Fragment) (b : Blamed) : Type 0 where
   pub answers : (fresh : ℕ → Name) → AreNew def f fresh → AreAllAnswers IsGood def fresh f b.kept
   pub names : IsFront def f b.names
@@ -45,7 +46,7 @@ IsBlame IsGood def f (Some b) = IsFound IsGood def f b
 
 -- ---- faults
 
--- So many of the next places may be tried after those with these answers.
+-- That many of the next places may be tried after those with these answers.
 pub record HasMore (def : Definition) (fresh : ℕ → Name) (f : Fragment) (kept : List Bool) (more : ℕ) : Type 0 where
   pub some : 0 < more
   pub inside : length kept + more ≤ place_count def f
@@ -64,7 +65,8 @@ abbrev pub IsOfTree : NoteFault → Type 0
 IsOfTree faults.Memory = ⊥
 IsOfTree _ = Unit {0}
 
--- A tree that is tried keeps nothing, or the kept places so far and some of the next ones. The fault is what is said of it.
+-- A tree that is tried keeps nothing, or the kept places so far and some of the next ones. The fault is what is said of
+-- it.
 pub record IsLimit (def : Definition) (f : Fragment) (kept : List Bool) (own : NoteFault) : Type 0 where
   pub fresh : ℕ → Name
   pub new : AreNew def f fresh
@@ -78,7 +80,7 @@ IsBlameFault def f Memory = Unit {0}
 
 -- ---- one trial
 
--- the evaluations of so many trials, each of so many
+-- the evaluations of that many trials, each of that many
 abbrev pub trials_work : ℕ → ℕ → ℕ
 trials_work zero work = 0
 trials_work (suc n) work = work + trials_work n work
@@ -105,11 +107,11 @@ IsLimitOf keep fault Memory = Unit {0}
 
 -- ---- the search
 
--- the tree of the kept places and of so many of the next ones
+-- the tree of the kept places and of that many of the next ones
 abbrev pub next_tree : Definition → Name → List Bool → ℕ → Fragment → Fragment
 next_tree def front kept more f = opened def (kept_in (kept ++ replicate more true)) (new_name front) f
 
--- So many of the next places can be kept, but not one more. `left` can't.
+-- That many of the next places can be kept, but not one more. `left` can't.
 pub record IsMost (def : Definition) (front : Name) (f : Fragment) (kept : List Bool) (left most : ℕ) : Type 0 where
   pub below : most < left
   pub good : IsOpen def (next_tree def front kept most f)
@@ -120,7 +122,8 @@ abbrev pub with_found : List Bool → Found → List Bool
 with_found kept found = (kept ++ replicate found.more true) ++ cond found.blamed (false ∷ []) []
 
 -- The next places that are kept are all that are left, or the place after them can't be kept with them.
-pub record IsNextFound (def : Definition) (front : Name) (f : Fragment) (kept : List Bool) (found : Found) : Type 0 where
+pub record IsNextFound (def : Definition) (front : Name) (f : Fragment) (kept : List Bool)
+    (found : Found) : Type 0 where
   pub inside : length kept + found.more ≤ place_count def f
   pub good : IsOpen def (next_tree def front kept found.more f)
   pub none : found.blamed ≡ false → length kept + found.more ≡ place_count def f

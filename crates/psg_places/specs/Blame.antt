@@ -20,7 +20,7 @@ kept_of_first kept n m = nat_lt m n && kept m
 abbrev pub none_kept : ℕ → Bool
 none_kept n = false
 
--- `IsGood` says which trees are good, as those that have a legal completion.
+-- `IsGood` says which trees are good, such as those that have a legal completion.
 module _ (IsGood : Fragment → Type 0) (def : Definition) (fresh : ℕ → Name) (f : Fragment) where
   -- the tree of the places before n that are kept, and n
   abbrev pub front : (ℕ → Bool) → ℕ → Fragment
@@ -49,7 +49,7 @@ abbrev pub blamed_in : List Bool → ℕ
 blamed_in [] = 0
 blamed_in (b ∷ more) = cond b 0 1 + blamed_in more
 
--- So many places are blamed at most: all after the last of them are opened.
+-- That many places are blamed at most: all after the last of them are opened.
 abbrev pub most_blamed : ℕ
 most_blamed = 100
 

@@ -43,7 +43,7 @@ module _ (def : Definition) (kept : Place → Bool) (fresh : Place → Word) whe
 abbrev pub numbered : List Place → ℕ → Place
 numbered places n = unwrap_or (slice_get places n) (Node [])
 
--- The law that ties numbers to places: where each number is kept as its place is, the tree is that of the kept places.
+-- The law that ties numbers to places: if each number is kept as its place is, the tree is that of the kept places.
 abbrev pub AreNumbered : Definition → Type 0
 AreNumbered def = (f : Fragment) (kept : Place → Bool) (fresh : Place → Word)
     → opened def (λ n. kept (numbered (places_of def f) n)) (λ n. fresh (numbered (places_of def f) n)) f

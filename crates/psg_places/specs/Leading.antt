@@ -26,8 +26,8 @@ abbrev pub is_opened_at : List Place → Path → Bool
 is_opened_at opened path = list_any (is_node path) opened
 
 module _ (def : Definition) (kept : List Bool) (fresh : ℕ → Word) where
-  -- What becomes of the node t at the path: a placeholder if it is opened itself, and else the node with some places below
-  -- it opened. Which ones is not said here.
+  -- What becomes of the node t at the path: a placeholder if it is opened itself, and else the node with some places
+  -- below it opened. Which ones is not said here.
   pub record Becomes (gone : List Place) (path : Path) (t u : Fragment) : Type 0 where
     pub placeholder : is_opened_at gone path ≡ true → u ≡ hole (phylum_of def t)
     pub same : is_opened_at gone path ≡ false → (d n : ℕ) × (u ≡ contents def (kept_in kept) fresh d n t)
@@ -44,4 +44,5 @@ module _ (def : Definition) (kept : List Bool) (fresh : ℕ → Word) where
   -- The path back of a node of the tree of the kept places leads to a node of the tree, which is there.
   abbrev pub LeadsBack : Fragment → Type 0
   LeadsBack f = (path back : Path) (u : Fragment) → node_at (opened def (kept_in kept) fresh f) path ≡ Some u
-      → IsBack (gone_of f) path back → (t : Fragment) × (node_at f back ≡ Some t) × (there_of (gone_of f) back ≡ Some path)
+      → IsBack (gone_of f) path back → (t : Fragment) × (node_at f back ≡ Some t)
+      × (there_of (gone_of f) back ≡ Some path)

@@ -65,7 +65,7 @@ module _ (def : Definition) where
   abbrev pub fixed_places : Path → Fragment → List Place
   fixed_places path e = cond (has_no_placeholder def e) (declared_places def path 0 e) []
 
-  -- the same of elements, of which the first has the number k
+  -- what is said there, of elements, of which the first has the number k
   abbrev pub elements_declared_places : Path → ℕ → List Fragment → List Place
   elements_declared_places path k [] = []
   elements_declared_places path k (e ∷ es) =

@@ -22,8 +22,8 @@ module _ (def : Definition) (keep : ℕ → Bool) (fresh : ℕ → Name) where
   abbrev pub opened_element : Fragment → Fragment → Fragment → Fragment
   opened_element e as_fixed as_child = cond (has_no_placeholder def e) as_fixed as_child
 
-  -- The numbers of the declared names are d and those after it, and the numbers of the other places n and those after it.
-  -- A node that is not kept is a placeholder, an element that is not kept is left out, an end that is not kept is
+  -- The numbers of the declared names are d and those after it, and the numbers of the other places n and those after
+  -- it. A node that is not kept is a placeholder, an element that is not kept is left out, an end that is not kept is
   -- unfinished, and a name that is not kept is a new one. `opened_by` says the same without numbers.
   abbrev pub contents : ℕ → ℕ → Fragment → Fragment
   contents d n (hole p) = hole p

@@ -17,7 +17,8 @@ use Rattle.psg_places.specs.declared.opening.OpenedElements.{OpenedElements}
 use Rattle.psg_places.specs.Blame.{kept_in}
 use Rattle.psg_places.specs.NewNames.{new_name}
 use Rattle.psg_places.specs.Opened.{name_or_fresh, opened_child, opened_element, contents, opened}
-use Rattle.psg_places.specs.Places.{has_no_placeholder, may_go_on, phylum_of, child_size, declared_count, content_count, place_count}
+use Rattle.psg_places.specs.Places.{has_no_placeholder, may_go_on, phylum_of, child_size, declared_count, content_count}
+use Rattle.psg_places.specs.Places.{place_count}
 
 -- a sound definition with the table of the spaces in which its phyla declare
 pub record IsKnown (k : Keeping) : Type 0 where
@@ -62,7 +63,8 @@ part_places def declares (Text x) = 0
 -- of an element, of which it is known whether its list may go on
 abbrev pub own_size : Definition → Bool → Fragment → ℕ
 own_size def free e = cond free
-    (1 + cond (has_no_placeholder def e) (declared_count def e + content_count def e) (child_size def e (content_count def e)))
+    (1 + cond (has_no_placeholder def e) (declared_count def e + content_count def e)
+    (child_size def e (content_count def e)))
     (child_size def e (content_count def e))
 
 -- ---- the trees
@@ -157,7 +159,7 @@ module _ (k : Keeping) where
     pub others : content_count k.definition.now (list_of l es u)
         ≡ own + content_count k.definition.now (list_of l rest u)
 
-  -- the same of every list of these elements that may go on as `free` says
+  -- what is said there, of every list of these elements that may go on as `free` says
   abbrev pub OpenTo : Bool → ℕ → ℕ → List Fragment → List Fragment → ℕ → ℕ → List Fragment → Type 0
   OpenTo free d n es made dec own rest = (l : ℕ) (u : Bool) → may_go_on k.definition.now l ≡ free
       → OpensTo free d n es made dec own rest l u

@@ -26,7 +26,7 @@ declares def p = declares_among def (length def.spaces) p
 abbrev pub may_go_on : Definition → ℕ → Bool
 may_go_on def l = may_be_unfinished (slice_get def.lists l)
 
--- the operator at the top, where the definition has it
+-- the operator at the top, if the definition has it
 abbrev pub operator_of : Definition → Fragment → Option Operator
 operator_of def f = option_and_then (operator_at def) (top_operator f)
 
@@ -51,8 +51,8 @@ abbrev pub is_hole : Fragment → Bool
 is_hole (hole p) = true
 is_hole _ = false
 
--- A list, or an operator of a phylum that declares: no placeholder can take its place, so it is no place of its own, and
--- its declared names are numbered with those of the operator above it. Of a placeholder itself it is false.
+-- A list, or an operator of a phylum that declares: no placeholder can take its place, so it is no place of its own,
+-- and its declared names are numbered with those of the operator above it. Of a placeholder itself it is false.
 abbrev pub has_no_placeholder : Definition → Fragment → Bool
 has_no_placeholder def f = is_list f || declares_by def (operator_of def f)
 
@@ -88,7 +88,7 @@ declared_places def path k (with_text f x) = declared_places def path k f
 declared_places def path k anything = []
 declared_places def path k (observed f) = []
 
--- The places of a child, from those of its contents: its operator is one. The names that the operator declares come
+-- The places of a child, from those of its contents: its operator is one. The names that the operator declares are
 -- before its other places.
 abbrev pub child_places : Definition → Path → Fragment → List Place → List Place
 child_places def path t contents = cond (has_no_placeholder def t) contents
@@ -97,7 +97,8 @@ child_places def path t contents = cond (has_no_placeholder def t) contents
 -- those of an element, which is a place itself if the list may go on
 abbrev pub element_places : Definition → ℕ → Path → Fragment → List Place → List Place
 element_places def l path e contents = cond (may_go_on def l)
-    (Element path ∷ cond (has_no_placeholder def e) (declared_places def path 0 e ++ contents) (child_places def path e contents))
+    (Element path ∷ cond (has_no_placeholder def e) (declared_places def path 0 e ++ contents)
+    (child_places def path e contents))
     (child_places def path e contents)
 
 -- The places below an operator or a list, in the order of the text, without the names that its operator declares. The

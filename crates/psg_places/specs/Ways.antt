@@ -11,7 +11,7 @@ use Rattle.psg_places.specs.Places.{below}
 abbrev pub goes_through : Path → Path → Bool
 goes_through at path = starts_with nat_eq path at
 
--- the same of a path to a node below the top
+-- what is said there, of a path to a node below the top
 abbrev pub goes_into : Path → Path → Bool
 goes_into [] path = false
 goes_into (j ∷ at) path = goes_through (j ∷ at) path

@@ -40,10 +40,10 @@ pub struct Blamed {
 }
 
 /// Finds which places of the tree are blamed. A place is kept exactly if the tree has a completion with it and the kept
-/// places before it, all later places opened. Else it is blamed. Names that are opened are new ones, and which new names
-/// are taken does not matter. The first hundred blamed places are found, and all after the hundredth are opened. The call
-/// returns `None` exactly if the tree has no completion even with nothing kept. All this is so in a definition with true
-/// hole rows, as an accepted one has them.
+/// places before it, all later places opened. Else it is blamed. Names that are opened are new ones, and which new
+/// names are taken does not matter. The first hundred blamed places are found, and all after the hundredth are opened.
+/// The call returns `None` exactly if the tree has no completion even with nothing kept. All this is so in a definition
+/// with true hole rows, as an accepted one has them.
 ///
 /// The search halves: it tries all places that are left. If these can't be kept together, it finds by halving the most
 /// of them that can, and the place after these is blamed. So it makes two trials, and for each blamed place one and as

@@ -24,7 +24,8 @@ fn pass_fixed(
     listing: &mut Listing,
 ) -> Result<(), AllocError>
     requires known { IsKnown keeping }
-    ensures { OnOk result (Lists keeping.entry.keep.now (listings.fixed_places keeping.entry.definition.now path.now tree.now)
+    ensures { OnOk result (Lists keeping.entry.keep.now
+        (listings.fixed_places keeping.entry.definition.now path.now tree.now)
         listing.old listing.new) }
 {
     if has_no_placeholder(keeping, tree) {
@@ -47,7 +48,8 @@ fn pass_declared_part(
     listing: &mut Listing,
 ) -> Result<(), AllocError>
     requires known { IsKnown keeping }
-    ensures { OnOk result (Lists keeping.entry.keep.now (listings.part_declared_places keeping.entry.definition.now path.now
+    ensures { OnOk result (Lists keeping.entry.keep.now
+        (listings.part_declared_places keeping.entry.definition.now path.now
         declares names children part.now) listing.old listing.new) }
 {
     match part {
@@ -107,7 +109,8 @@ fn pass_declared_elements(
     listing: &mut Listing,
 ) -> Result<(), AllocError>
     requires known { IsKnown keeping }
-    ensures { OnOk result (Lists keeping.entry.keep.now (listings.elements_declared_places keeping.entry.definition.now path.now 0
+    ensures { OnOk result (Lists keeping.entry.keep.now
+        (listings.elements_declared_places keeping.entry.definition.now path.now 0
         elements.now) listing.old listing.new) }
 {
     for i in 0..elements.len() {
@@ -127,7 +130,8 @@ pub(crate) fn pass_declared(
     listing: &mut Listing,
 ) -> Result<(), AllocError>
     requires known { IsKnown keeping }
-    ensures { OnOk result (Lists keeping.entry.keep.now (declared_places keeping.entry.definition.now path.now 0 tree.now)
+    ensures { OnOk result (Lists keeping.entry.keep.now
+        (declared_places keeping.entry.definition.now path.now 0 tree.now)
         listing.old listing.new) }
 {
     match tree.shape() {

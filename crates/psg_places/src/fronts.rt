@@ -61,8 +61,8 @@ fn longer(alloc: Global, front: &str, names: &[Txt]) -> Result<Front, AllocError
     Ok(by_b)
 }
 
-/// Returns letters a and b with which none of the names begins, at most 64: each letter leaves at most half of the names
-/// that began with those before it.
+/// Returns letters a and b with which none of the names begins, at most 64: each letter leaves at most half of the
+/// names that began with those before it.
 fn free_letters(alloc: Global, names: &[Txt]) -> Result<String, AllocError>
     ensures { IfOk result (λ letters. IsFree names.now (string_bytes letters)) }
 {
@@ -76,8 +76,8 @@ fn free_letters(alloc: Global, names: &[Txt]) -> Result<String, AllocError>
     Ok(letters)
 }
 
-/// Returns letters with which no name of the tree begins and no fixed word of the definition. It compares all names with
-/// two fronts for each letter, of which there are no more than the logarithm of the number of names, and one.
+/// Returns letters with which no name of the tree begins and no fixed word of the definition. It compares all names
+/// with two fronts for each letter, of which there are no more than the logarithm of the number of names, and one.
 pub(crate) fn front_of(
     alloc: Global,
     definition: &Definition,
@@ -99,8 +99,8 @@ fn write_number(out: &mut String, value: usize) -> Result<(), AllocError>
     out.push_str(buffer.format(value))
 }
 
-/// Returns the new name for the place of the number, where new names begin with the letters of the front: these letters,
-/// an a and the number. An error says that memory ran out.
+/// Returns the new name for the place of the number, where new names begin with the letters of the front: these
+/// letters, an a and the number. An error says that memory ran out.
 pub fn new_name(alloc: Global, front: &Txt, place: usize) -> Result<Txt, AllocError>
     ensures { IfOk result (λ name. name ≡ new_name_of front.now place) }
 {

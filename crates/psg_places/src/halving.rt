@@ -1,10 +1,12 @@
 //! The next blamed place: the most places that can be kept together after those before them, by halving.
-ghost use Rattle.std.specs.Prelude.{ℕ, ◌≡◌, ◌+◌, ◌^◌, ◌<◌, ◌≤◌, ◌++◌, ◌↔◌, true, false, cond, length, replicate, IfErr, IfOk, IsTrue, OnOk};
+ghost use Rattle.std.specs.Prelude.{ℕ, ◌≡◌, ◌+◌, ◌^◌, ◌<◌, ◌≤◌, ◌++◌, ◌↔◌, true, false, cond, length, replicate, IfErr};
+ghost use Rattle.std.specs.Prelude.{IfOk, IsTrue, OnOk};
 ghost use Rattle.psg_cache.specs.Notes.{AreTables, IsFormed};
 ghost use Rattle.psg_grammar.specs.Open.{IsOpen};
 ghost use Rattle.psg_grammar.specs.Sound.{IsSound};
 ghost use Rattle.psg_grammar.specs.Work.{work_of};
-ghost use Rattle.psg_places.specs.Answers.{HasMore, IsBlameFault, IsMost, IsNextFound, next_tree, trials_work, with_found};
+ghost use Rattle.psg_places.specs.Answers.{HasMore, IsBlameFault, IsMost, IsNextFound, next_tree, trials_work};
+ghost use Rattle.psg_places.specs.Answers.{with_found};
 ghost use Rattle.psg_places.specs.NewNames.{IsFront, new_name};
 ghost use Rattle.psg_places.specs.Places.{place_count};
 
@@ -24,7 +26,7 @@ pub(crate) struct Found {
     pub(crate) blamed: bool,
 }
 
-/// Adds so many answers that keep their places.
+/// Adds that many answers that keep their places.
 fn keep_more(kept: &mut Vec<bool>, more: usize) -> Result<(), AllocError>
     requires { length kept.old.items + more < 2 ^ 64 }
     ensures { OnOk result (kept.new.items ≡ kept.old.items ++ replicate more true) }
@@ -47,7 +49,7 @@ pub(crate) fn add_found(kept: &mut Vec<bool>, found: &Found) -> Result<(), Alloc
     Ok(())
 }
 
-/// Returns the answers with so many more, which keep the next places.
+/// Returns the answers with that many more, which keep the next places.
 fn with_next(alloc: Global, kept: &[bool], more: usize) -> Result<Vec<bool>, AllocError>
     requires { length kept.now + more < 2 ^ 64 }
     ensures { IfOk result (λ longer. longer.items ≡ kept.now ++ replicate more true) }
@@ -57,7 +59,7 @@ fn with_next(alloc: Global, kept: &[bool], more: usize) -> Result<Vec<bool>, All
     Ok(longer)
 }
 
-/// Says whether so many of the next places can be kept together with those that are kept before them.
+/// Says whether that many of the next places can be kept together with those that are kept before them.
 fn keeps_next<L: Ledger>(
     alloc: Global,
     definition: &Definition,

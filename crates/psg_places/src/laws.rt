@@ -7,7 +7,8 @@ ghost use Rattle.psg_grammar.specs.Legal.{IsCompletable};
 ghost use Rattle.psg_grammar.specs.Open.{IsOpen};
 ghost use Rattle.psg_grammar.specs.Sound.{IsSound};
 ghost use Rattle.psg_terms.specs.Names.{Name};
-ghost use Rattle.psg_places.specs.Blame.{IsFalling, IsForAllNames, IsGoodIfKept, IsNeeded, IsNoneWhereGood, IsOfPlaces, IsOne};
+ghost use Rattle.psg_places.specs.Blame.{IsFalling, IsForAllNames, IsGoodIfKept, IsNeeded, IsNoneWhereGood, IsOfPlaces};
+ghost use Rattle.psg_places.specs.Blame.{IsOne};
 ghost use Rattle.psg_places.specs.Blame.{IsWhole, KeepsAll, Leaves};
 ghost use Rattle.psg_places.specs.ByPlaces.{AreNumbered};
 ghost use Rattle.psg_places.specs.Leading.{LeadsBack, LeadsThere};
@@ -28,7 +29,8 @@ pub fn needed(definition: &Definition)
 /// States that there is one list of answers for each choice of new names.
 pub fn one_answer(definition: &Definition)
     ensures open { (fresh : ℕ → Name) (f : Fragment) → IsOne (IsOpen definition.now) definition.now f fresh }
-    ensures completable { (fresh : ℕ → Name) (f : Fragment) → IsOne (IsCompletable definition.now) definition.now f fresh }
+    ensures completable { (fresh : ℕ → Name) (f : Fragment)
+        → IsOne (IsCompletable definition.now) definition.now f fresh }
 {
     let _same = definition;
 }
@@ -56,7 +58,8 @@ pub fn new_names(definition: &Definition)
 /// blamed.
 pub fn kept_is_good(definition: &Definition)
     ensures open { (fresh : ℕ → Name) (f : Fragment) → Leaves (IsOpen definition.now) definition.now f fresh }
-    ensures completable { (fresh : ℕ → Name) (f : Fragment) → Leaves (IsCompletable definition.now) definition.now f fresh }
+    ensures completable { (fresh : ℕ → Name) (f : Fragment)
+        → Leaves (IsCompletable definition.now) definition.now f fresh }
     ensures whole_open { (fresh : ℕ → Name) (f : Fragment)
         → IsGoodIfKept (IsOpen definition.now) definition.now f fresh }
     ensures whole_completable { (fresh : ℕ → Name) (f : Fragment)
@@ -74,7 +77,8 @@ pub fn keeps_all(definition: &Definition)
     let _same = definition;
 }
 
-/// States that a good tree is still good with its places from some number on opened, in a definition with true hole rows.
+/// States that a good tree is still good with its places from some number on opened, in a definition with true hole
+/// rows.
 pub fn falls(definition: &Definition)
     requires sound { IsSound definition.now }
     ensures open { HasTrueRows definition.now → (f : Fragment) → IsFormed definition.now f → (fresh : ℕ → Name)
@@ -105,8 +109,8 @@ pub fn leads_there(definition: &Definition)
     let _same = definition;
 }
 
-/// States that each node of the tree of the kept places is one of the whole tree: its path back leads there, and the path
-/// there of that node is its own.
+/// States that each node of the tree of the kept places is one of the whole tree: its path back leads there, and the
+/// path there of that node is its own.
 pub fn leads_back(definition: &Definition)
     ensures { (kept : List Bool) (fresh : ℕ → Name) (f : Fragment) → IsFormed definition.now f
         → LeadsBack definition.now kept fresh f }
@@ -114,8 +118,8 @@ pub fn leads_back(definition: &Definition)
     let _same = definition;
 }
 
-/// States which place each number is: as many places are counted as are listed, a tree by numbers is the tree by places,
-/// it depends only on what is said of its places, and all places kept give the tree itself.
+/// States which place each number is: as many places are counted as are listed, a tree by numbers is the tree by
+/// places, it depends only on what is said of its places, and all places kept give the tree itself.
 pub fn numbers_are_places(definition: &Definition)
     ensures counted { AreCounted definition.now }
     ensures numbered { AreNumbered definition.now }

@@ -10,9 +10,10 @@
 //!
 //! A place is the operator of a node, an element of a list that may be unfinished, the end of such a list, or a name.
 //! Opened, an operator is a placeholder, an element is left out, an end is unfinished, and a name is a new one. The
-//! places are taken in the order of the text. A place is kept exactly if the tree has a legal completion with it and the
-//! kept places before it, all later places opened. The others are blamed. `kept_part` makes the tree for any choice of
-//! kept places; `path_there` leads from a node of the whole tree to where it is in such a tree, and `path_back` back.
+//! places are taken in the order of the text. A place is kept exactly if the tree has a legal completion with it and
+//! the kept places before it, all later places opened. The others are blamed. `kept_part` makes the tree for any choice
+//! of kept places; `path_there` leads from a node of the whole tree to where it is in such a tree, and `path_back`
+//! back.
 #![tactic(auto)]
 
 mod blaming;

@@ -33,7 +33,8 @@ fn pass_both(
     listing: &mut Listing,
 ) -> Result<(), AllocError>
     requires known { IsKnown keeping }
-    ensures { OnOk result (Lists keeping.entry.keep.now (listings.both_places keeping.entry.definition.now path.now tree.now)
+    ensures { OnOk result (Lists keeping.entry.keep.now
+        (listings.both_places keeping.entry.definition.now path.now tree.now)
         listing.old listing.new) }
 {
     pass_declared(alloc, keeping, path, tree, listing)?;
@@ -69,7 +70,8 @@ fn pass_child(
     listing: &mut Listing,
 ) -> Result<(), AllocError>
     requires known { IsKnown keeping }
-    ensures { OnOk result (Lists keeping.entry.keep.now (listings.own_child_places keeping.entry.definition.now path.now tree.now)
+    ensures { OnOk result (Lists keeping.entry.keep.now
+        (listings.own_child_places keeping.entry.definition.now path.now tree.now)
         listing.old listing.new) }
 {
     if has_no_placeholder(keeping, tree) {
@@ -93,7 +95,8 @@ fn pass_free_element(
     listing: &mut Listing,
 ) -> Result<(), AllocError>
     requires known { IsKnown keeping }
-    ensures { OnOk result (Lists keeping.entry.keep.now (listings.own_element_places keeping.entry.definition.now true path.now
+    ensures { OnOk result (Lists keeping.entry.keep.now
+        (listings.own_element_places keeping.entry.definition.now true path.now
         tree.now) listing.old listing.new) }
 {
     pass(alloc, keeping, What::Element, path, listing)?;
@@ -116,7 +119,8 @@ fn pass_element(
     listing: &mut Listing,
 ) -> Result<(), AllocError>
     requires known { IsKnown keeping }
-    ensures { OnOk result (Lists keeping.entry.keep.now (listings.own_element_places keeping.entry.definition.now free path.now
+    ensures { OnOk result (Lists keeping.entry.keep.now
+        (listings.own_element_places keeping.entry.definition.now free path.now
         tree.now) listing.old listing.new) }
 {
     if free {
@@ -138,7 +142,8 @@ fn pass_elements(
     listing: &mut Listing,
 ) -> Result<(), AllocError>
     requires known { IsKnown keeping }
-    ensures { OnOk result (Lists keeping.entry.keep.now (listings.elements_places keeping.entry.definition.now free path.now 0
+    ensures { OnOk result (Lists keeping.entry.keep.now
+        (listings.elements_places keeping.entry.definition.now free path.now 0
         elements.now) listing.old listing.new) }
 {
     for i in 0..elements.len() {
@@ -187,7 +192,8 @@ fn pass_part(
     listing: &mut Listing,
 ) -> Result<(), AllocError>
     requires known { IsKnown keeping }
-    ensures { OnOk result (Lists keeping.entry.keep.now (listings.part_content_places keeping.entry.definition.now path.now
+    ensures { OnOk result (Lists keeping.entry.keep.now
+        (listings.part_content_places keeping.entry.definition.now path.now
         declares names children part.now) listing.old listing.new) }
 {
     match part {
@@ -247,7 +253,8 @@ fn pass_contents(
     listing: &mut Listing,
 ) -> Result<(), AllocError>
     requires known { IsKnown keeping }
-    ensures { OnOk result (Lists keeping.entry.keep.now (content_places keeping.entry.definition.now path.now 0 tree.now)
+    ensures { OnOk result (Lists keeping.entry.keep.now
+        (content_places keeping.entry.definition.now path.now 0 tree.now)
         listing.old listing.new) }
 {
     match tree.shape() {
@@ -289,9 +296,9 @@ fn pass_tree(
 }
 
 /// Lists the places of a tree that are not kept, in the order of the text, also those after the last answer. A place
-/// below a node that is not kept is not listed unless it is not kept itself. The call walks once over the tree, and twice
-/// over what declares. An error says that memory ran out, or that a list has so many elements that no path has a step to
-/// the last.
+/// below a node that is not kept is not listed unless it is not kept itself. The call walks once over the tree, and
+/// twice over what declares. An error says that memory ran out, or that a list has more elements than a path has steps
+/// for.
 pub fn opened_places(
     alloc: Global,
     definition: &Definition,
@@ -319,8 +326,8 @@ pub fn opened_places(
 }
 
 /// Lists all places of a tree, in the order of the text. The number of a place is its position in this list. The call
-/// walks once over the tree, and twice over what declares. An error says that memory ran out, or that a list has so many
-/// elements that no path has a step to the last.
+/// walks once over the tree, and twice over what declares. An error says that memory ran out, or that a list has more
+/// elements than a path has steps for.
 pub fn all_places(
     alloc: Global,
     definition: &Definition,
@@ -358,10 +365,10 @@ fn blamed_count(kept: &[bool]) -> usize
     total
 }
 
-/// Lists the blamed places of a tree, in the order of the text, by the answers of `blame`: those of its places for which
-/// there is an answer, and which are not kept. A place below a blamed node is not listed unless it is blamed itself. The
-/// call walks once over the tree, and twice over what declares. An error says that memory ran out, or that a list has so
-/// many elements that no path has a step to the last.
+/// Lists the blamed places of a tree, in the order of the text, by the answers of `blame`: those of its places for
+/// which there is an answer, and which are not kept. A place below a blamed node is not listed unless it is blamed
+/// itself. The call walks once over the tree, and twice over what declares. An error says that memory ran out, or that
+/// a list has more elements than a path has steps for.
 pub fn blamed_places(
     alloc: Global,
     definition: &Definition,

@@ -38,8 +38,8 @@ pub(crate) fn held(number: usize) -> usize
     number
 }
 
-/// Returns the step to the child of the number. Exactly for a number that 32 bits do not hold a path has no step, and the
-/// call fails as if out of memory.
+/// Returns the step to the child of the number. Exactly for a number that 32 bits do not hold a path has no step, and
+/// the call fails as if out of memory.
 pub(crate) fn step_of(number: usize) -> Result<u32, AllocError>
     ensures step { IfOk result (λ step. step ≡ number) }
     ensures fits { number < 2 ^ 32 → IsOk result }

@@ -191,7 +191,7 @@ fn open_parts(
     })
 }
 
-/// Opens a tree at the place together with the names that it declares, which come first.
+/// Opens a tree at the place together with the names that it declares, which are first.
 #[cycle(open)]
 fn open_both(
     alloc: Global,
@@ -424,8 +424,8 @@ fn open_list(
     })
 }
 
-/// Opens what is below the operator or list at the top. `above` is the number of the first declared name, `place` that of
-/// the first other place.
+/// Opens what is below the operator or list at the top. `above` is the number of the first declared name, `place` that
+/// of the first other place.
 #[cycle(open)]
 fn open_contents(
     alloc: Global,

@@ -21,7 +21,7 @@ pub(crate) struct Listing {
     pub(crate) found: Vec<Place>,
 }
 
-/// What a place is, but for its path.
+/// What a place is, except its path.
 #[derive(Clone, Copy)]
 pub(crate) enum What {
     Node,

@@ -56,9 +56,9 @@ pub(crate) fn kept_tree(
     Ok(opened)
 }
 
-/// Returns the tree in which only the kept places of a tree are kept. The places after the last answer are opened. A name
-/// that is opened becomes the letters of `names`, an a and the number of its place, as in the repaired tree of an answer
-/// with these letters. It walks over the tree, and twice over what declares. An error says that memory ran out.
+/// Returns the tree in which only the kept places of a tree are kept. The places after the last answer are opened. A
+/// name that is opened becomes the letters of `names`, an a and the number of its place, as in the repaired tree of an
+/// answer with these letters. It walks over the tree, and twice over what declares. An error says that memory ran out.
 pub fn kept_part(
     alloc: Global,
     definition: &Definition,

@@ -78,7 +78,7 @@ fn is_below(number: u32, many: usize, path: &[u32], other: &[u32]) -> bool
     (number as usize) < many && path == other
 }
 
-/// Says whether the path `at` leads to one of so many first elements of the list at the path.
+/// Says whether the path `at` leads to an element of the list at the path, one of that many at its front.
 fn goes_before(many: usize, path: &[u32], at: &[u32]) -> bool
     ensures { result ≡ ways.goes_before many path.now at.now }
 {
@@ -88,7 +88,7 @@ fn goes_before(many: usize, path: &[u32], at: &[u32]) -> bool
     }
 }
 
-/// Says whether the place is one of so many first elements of the list at the path.
+/// Says whether the place is an element of the list at the path, one of that many at its front.
 fn is_earlier(path: &[u32], many: usize, place: &Place) -> bool
     ensures { result ≡ ways.is_earlier path.now many place.now }
 {
@@ -100,7 +100,7 @@ fn is_earlier(path: &[u32], many: usize, place: &Place) -> bool
     }
 }
 
-/// Counts the opened places among so many first elements of the list at the path.
+/// Counts the opened places among that many elements at the front of the list at the path.
 fn earlier(opened: &[Place], path: &[u32], many: usize) -> usize
     ensures { result ≡ ways.earlier opened.now path.now many }
 {
@@ -142,9 +142,9 @@ fn moved(alloc: Global, opened: &[Place], path: &[u32]) -> Result<Vec<u32>, Allo
 }
 
 /// Returns the path in the tree of the kept places of the node at the path in the whole tree, where the list has the
-/// places that are opened. A node that is opened itself is there as its placeholder. The call returns `None` exactly for a
-/// node that is not there: one below a placeholder that an opened place becomes, or one that is left out. It passes the
-/// places twice, and once more for each step. An error says that memory ran out.
+/// places that are opened. A node that is opened itself is there as its placeholder. The call returns `None` exactly
+/// for a node that is not there: one below a placeholder that an opened place becomes, or one that is left out. It
+/// passes the places twice, and once more for each step. An error says that memory ran out.
 pub fn path_there(alloc: Global, opened: &[Place], path: &Path) -> Result<Option<Path>, AllocError>
     ensures { IfOk result (λ found. found ≡ there_of opened.now path.now) }
 {
@@ -159,8 +159,8 @@ pub fn path_there(alloc: Global, opened: &[Place], path: &Path) -> Result<Option
     Ok(Some(there))
 }
 
-/// Returns the number in the whole tree of the element that has the number in the tree of the kept places, in the list at
-/// the path. It counts once, and again each time that more elements before are left out than were counted.
+/// Returns the number in the whole tree of the element that has the number in the tree of the kept places, in the list
+/// at the path. It counts once, and again each time that more elements before are left out than were counted.
 fn element_back(opened: &[Place], at: &[u32], step: u32) -> Result<u32, AllocError>
     ensures { IfOk result (IsElementBack opened.now at.now step) }
 {
@@ -180,8 +180,8 @@ fn element_back(opened: &[Place], at: &[u32], step: u32) -> Result<u32, AllocErr
 }
 
 /// Returns the path in the whole tree of the node at the path in the tree of the kept places, where the list has the
-/// places that are opened. It passes the places once for each step, and once more for each run of elements that are left
-/// out before. An error says that memory ran out, or that no path has a step so far.
+/// places that are opened. It passes the places once for each step, and once more for each run of elements that are
+/// left out before. An error says that memory ran out, or that no path has a step so far.
 pub fn path_back(alloc: Global, opened: &[Place], path: &Path) -> Result<Path, AllocError>
     ensures { IfOk result (IsBack opened.now path.now) }
 {

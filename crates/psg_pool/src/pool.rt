@@ -41,7 +41,7 @@ struct Slot {
     content: Content,
 }
 
-/// Where the arguments of the first `cells` slots end in the buffer, which has `length` arguments.
+/// Returns where the arguments of the first `cells` slots end in the buffer, which has `length` arguments.
 fn end_of(slots: &[Slot], cells: usize, length: usize) -> usize
     ensures { result ≡ argument_end slots.now cells length }
 {

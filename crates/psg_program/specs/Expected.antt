@@ -1,4 +1,4 @@
--- What may come after tokens that begin a program, in words.
+-- What may follow tokens that begin a program, in words.
 use Rattle.std.specs.Prelude.{ℕ, ◌≡◌, List, [], ◌∷◌, ◌++◌, map, codes}
 use Rattle.std.specs.Cmp.Lexicographic.{slice_cmp}
 use Rattle.std.specs.Ordering.{nat_cmp}
@@ -11,7 +11,7 @@ use Rattle.psg_class.specs.Terminals.{Terminal, Token, fixed, a_name, a_number, 
 use Rattle.psg_parse.specs.Stops.{MayEnd}
 use Rattle.psg_stop.specs.Wanted.{GoesWith, hole_terminal, word_terminal}
 
--- ---- the order in which they are told
+-- ---- the order in which they are reported
 
 -- the word at its place in the order of bytes, if it is not there
 abbrev pub insert_word : Name → List Name → List Name
@@ -27,7 +27,7 @@ with_words placed_words (w ∷ ws) = with_words (insert_word w placed_words) ws
 abbrev pub words_in_order : Definition → List Name
 words_in_order def = with_words [] (codes "(" ∷ codes ")" ∷ fixed_words def)
 
--- all that a token of a program can be, in the order in which it is told
+-- all that a token of a program can be, in the order in which it is reported
 abbrev pub terminals_in_order : Definition → List Terminal
 terminals_in_order def =
     map word_terminal (words_in_order def)
@@ -38,7 +38,7 @@ terminals_in_order def =
 abbrev pub in_backquotes : List ℕ → List ℕ
 in_backquotes text = 96 ∷ text ++ 96 ∷ []
 
--- what is told of a terminal
+-- what is reported about a terminal
 abbrev pub told_of : Terminal → List ℕ
 told_of (fixed w) = in_backquotes w
 told_of a_name = codes "a name"
@@ -48,7 +48,7 @@ told_of (a_hole p) = in_backquotes (63 ∷ p)
 told_of a_more = in_backquotes (codes "...")
 told_of stray = []
 
--- those of the terminals are told, in their order, for which this holds
+-- those of the terminals are reported, in their order, for which this holds
 pub data AreTold (Goes : Terminal → Type 0) : List Terminal → List (List ℕ) → Type 0 where
   none_told : AreTold Goes [] []
   one_told : {terminal : Terminal} {rest : List Terminal} {words : List (List ℕ)} → Goes terminal
@@ -56,7 +56,7 @@ pub data AreTold (Goes : Terminal → Type 0) : List Terminal → List (List ℕ
   one_left_out : {terminal : Terminal} {rest : List Terminal} {words : List (List ℕ)} → (Goes terminal → ⊥)
       → AreTold Goes rest words → AreTold Goes (terminal ∷ rest) words
 
--- that the text may end is told where it may
+-- it is reported that the text may end, if it may
 pub data IsEndTold (Ends : Type 0) : List (List ℕ) → Type 0 where
   end_told : Ends → IsEndTold Ends (codes "the end of the text" ∷ [])
   end_left_out : (Ends → ⊥) → IsEndTold Ends []
@@ -67,16 +67,17 @@ pub record IsAdded (Holds : List (List ℕ) → Type 0) (old new : List (List �
   pub holds : Holds words
   pub whole : new ≡ old ++ words
 
--- Exactly those of the terminals are told for which the one holds, and the end of the text where the other does.
-pub record AreToldBoth (Goes : Terminal → Type 0) (Ends : Type 0) (all : List Terminal) (words : List (List ℕ)) : Type 0 where
+-- Exactly those of the terminals are reported for which the one holds, and the end of the text where the other does.
+pub record AreToldBoth (Goes : Terminal → Type 0) (Ends : Type 0) (all : List Terminal)
+    (words : List (List ℕ)) : Type 0 where
   pub terminals : List (List ℕ)
   pub ends : List (List ℕ)
   pub are_told : AreTold Goes all terminals
   pub is_end_told : IsEndTold Ends ends
   pub whole : words ≡ terminals ++ ends
 
--- What may come after the tokens: exactly the terminals that go on with them, and that they are a whole program where
--- they are.
+-- What may follow the tokens: exactly the terminals that go on with them, and that they are a whole program where they
+-- are.
 abbrev pub AreExpected : Definition → Kind → List Token → List (List ℕ) → Type 0
 AreExpected def kind ts words =
     AreToldBoth (GoesWith def kind 0 ts) (MayEnd def kind 0 ts) (terminals_in_order def) words

@@ -9,7 +9,7 @@ use Rattle.psg_program.specs.Expected.{in_backquotes}
 
 -- ---- a text without tokens
 
--- the byte at which it is told
+-- the byte at which it is reported
 abbrev pub byte_of : LexFault → ℕ
 byte_of (faults.BadChar byte) = byte
 byte_of (faults.BadRun byte) = byte

@@ -43,8 +43,8 @@ module _ (def : Definition) (kind : Kind) where
     pub brackets : nesting ≤ most_brackets
     pub small : IsBig f → ⊥
 
-  -- The text is no program, with the byte at which that is told, and the message. The tests are: it has tokens, they are
-  -- a tree, the tree is not too deep, and it is not too large.
+  -- The text is no program, with the byte at which that is reported, and the message. The tests are: it has tokens,
+  -- they are a tree, the tree is not too deep, and it is not too large.
   pub data HasNoProgram (text : List ℕ) : ℕ → List ℕ → Type 0 where
     no_tokens : (fault : LexFault) → HasFault (fixed_words def) (chars text) 0 fault
         → HasNoProgram text (byte_of fault) (lexical_message fault)
@@ -62,8 +62,8 @@ module _ (def : Definition) (kind : Kind) where
     pub is_text : IsUtf8 (unmarked bytes)
     pub is_read : IsProgramText (unmarked bytes) f
 
-  -- The bytes are no program, with the line and the column at which that is told, and the message. A byte order mark at
-  -- their beginning is passed over, and takes no column.
+  -- The bytes are no program, with the line and the column at which that is reported, and the message. A byte order
+  -- mark at their beginning is passed over, and takes no column.
   pub data IsFaulty (bytes : List ℕ) : ℕ → ℕ → List ℕ → Type 0 where
     no_utf8 : (count line column : ℕ) → IsValidUpTo (unmarked bytes) count
         → IsAt (take count (unmarked bytes)) count line column → IsFaulty bytes line column no_utf8_message
@@ -96,7 +96,7 @@ module _ (def : Definition) (kind : Kind) where
   IsProgramFault bytes (Syntax e) = IsFaulty bytes e.place.line e.place.column (string_bytes e.message)
   IsProgramFault bytes Memory = Unit {0}
 
--- the message is told at the byte of the text, or memory ran out
+-- the message is reported at the byte of the text, or memory ran out
 abbrev pub IsToldAt : List ℕ → ℕ → List ℕ → ProgramFault → Type 0
 IsToldAt text byte message (Syntax e) =
     (string_bytes e.message ≡ message) × IsAt text byte e.place.line e.place.column

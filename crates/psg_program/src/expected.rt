@@ -1,4 +1,4 @@
-//! What may come after tokens that begin a program, in words.
+//! What may follow tokens that begin a program, in words.
 ghost use Rattle.std.specs.Prelude.{◌≡◌, ◌↔◌, ◌++◌, ◌∷◌, [], IfOk, IsTrue, List, OnOk, map, string_bytes, true};
 ghost use Rattle.psg_class.specs.Terminals.{a_hole, a_more, a_name, a_number, a_text, fixed};
 ghost use Rattle.psg_program.specs.Expected.{AreTold, AreToldBoth, IsAdded, IsEndTold, terminals_in_order, told_of};
@@ -118,7 +118,7 @@ fn is_among(one: &Wanted, all: &[Wanted]) -> bool
     false
 }
 
-// ---- in the order in which they are told
+// ---- in the order in which they are reported
 
 fn add_words(all: &mut Vec<Wanted>, words: &[Txt]) -> Result<(), AllocError>
     ensures { OnOk result (wanted_terminals all.new.items
@@ -152,7 +152,7 @@ fn add_holes(all: &mut Vec<Wanted>, phyla: &[Phylum]) -> Result<(), AllocError>
     Ok(())
 }
 
-/// Returns all that a token of a program can be, in the order in which it is told.
+/// Returns all that a token of a program can be, in the order in which it is reported.
 fn in_order(alloc: Global, definition: &Definition) -> Result<Vec<Wanted>, AllocError>
     ensures { IfOk result (λ all. wanted_terminals all.items ≡ terminals_in_order definition.now) }
 {
@@ -167,7 +167,7 @@ fn in_order(alloc: Global, definition: &Definition) -> Result<Vec<Wanted>, Alloc
 
 // ---- in words
 
-/// Writes what is told of the kind of token.
+/// Writes what is reported about the kind of token.
 fn told(alloc: Global, one: &Wanted) -> Result<String, AllocError>
     ensures { IfOk result (λ text. string_bytes text ≡ told_of (wanted_terminal one.now)) }
 {
@@ -181,7 +181,7 @@ fn told(alloc: Global, one: &Wanted) -> Result<String, AllocError>
     }
 }
 
-/// Adds what is told of the kind of token, if it is wanted.
+/// Adds what is reported about the kind of token, if it is wanted.
 fn tell_if(
     alloc: Global,
     one: &Wanted,
@@ -200,7 +200,7 @@ fn tell_if(
     Ok(())
 }
 
-/// Returns what is told of those of the kinds of tokens that are wanted.
+/// Returns what is reported about those of the kinds of tokens that are wanted.
 fn told_words(alloc: Global, all: &[Wanted], wanted: &[Wanted]) -> Result<Vec<String>, AllocError>
     ensures { IfOk result (λ words. AreTold (λ t. IsIn t (wanted_terminals wanted.now)) (wanted_terminals all.now)
         (map string_bytes words.items)) }
@@ -225,9 +225,9 @@ fn tell_end(alloc: Global, may_end: bool, words: &mut Vec<String>) -> Result<(),
     Ok(())
 }
 
-/// Returns what may be at the stop, in words: the fixed words in the order of their bytes, then names, numbers and texts,
-/// the placeholders in the order of the phyla, the mark `...`, and the end of the text. It compares each kind of token
-/// with each that is wanted.
+/// Returns what may be at the stop, in words: the fixed words in the order of their bytes, then names, numbers and
+/// texts, the placeholders in the order of the phyla, the mark `...`, and the end of the text. It compares each kind of
+/// token with each that is wanted.
 pub fn expected_words(
     alloc: Global,
     definition: &Definition,

@@ -8,7 +8,7 @@ use std::alloc::{AllocError, AllocFailed};
 /// What is wrong with a text, and where.
 #[derive(Debug, Drop)]
 pub struct SyntaxError {
-    /// The place at which it is told.
+    /// The place at which it is reported.
     pub place: Place,
     /// The message, one line.
     pub message: String,

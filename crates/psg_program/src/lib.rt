@@ -1,5 +1,5 @@
-//! Program files: the program that bytes are, or the place and the reason why they are none; and the text that a program
-//! file is to have.
+//! Program files: the program that bytes are, or the place and the reason why they are none; and the text that a
+//! program file is to have.
 //!
 //! ```text
 //! let program = read_program(alloc, &language, kind, bytes, &mut steps)?;

@@ -1,5 +1,6 @@
 //! The messages for texts that are no programs.
-ghost use Rattle.std.specs.Prelude.{◌≡◌, ◌++◌, IfOk, OnOk, List, Some, ℕ, chars, map, slice_get, slice_range, string_bytes};
+ghost use Rattle.std.specs.Prelude.{◌≡◌, ◌++◌, IfOk, OnOk, List, Some, ℕ, chars, map, slice_get, slice_range};
+ghost use Rattle.std.specs.Prelude.{string_bytes};
 ghost use Rattle.psg_grammar.specs.WellFormed.{fixed_words};
 ghost use Rattle.psg_grammar.specs.declared.types.Definition.{Definition as Plain};
 ghost use Rattle.psg_grammar.specs.declared.types.Kind.{Kind};

@@ -54,7 +54,7 @@ fn is_big(tree: &Tree) -> bool
     has_long_list(tree)
 }
 
-/// A program of the kind, with no brackets around it.
+/// Returns the goal of a program of the kind, with no brackets around it.
 fn whole(kind: Kind) -> Goal
     ensures { result ≡ goal_of kind }
 {
@@ -204,7 +204,7 @@ fn read_text<L: Ledger>(
     read_tokens(alloc, language, kind, text, tokens, steps)
 }
 
-/// Returns the fault of bytes of which so many are the longest text at their beginning, and more follow.
+/// Returns the fault of bytes of which that many are the longest text at their beginning, and more follow.
 fn no_text(alloc: Global, bytes: &[u8], count: usize) -> ProgramFault
     requires { IsValidUpTo bytes.now count }
     ensures { IsToldAt (take count bytes.now) count no_utf8_message result }
@@ -220,10 +220,10 @@ fn no_text(alloc: Global, bytes: &[u8], count: usize) -> ProgramFault
 /// tokens are a program of the kind, it is at most 200 deep and its brackets nest at most 400 deep, and it has at most
 /// 20,000 nodes and each list of it at most 4,096 elements.
 ///
-/// Where the tokens are no program, the place is where they stop to begin one, and the message says what is there and all
-/// that may be there. `Memory` is returned where memory runs out, at any time. It takes a step of the counter for each
-/// token, and work linear in the bytes; where the tokens are no program, as much again for each fixed word and each
-/// phylum of the definition.
+/// Where the tokens are no program, the place is where they stop to begin one, and the message says what is there and
+/// all that may be there. `Memory` is returned where memory runs out, at any time. It takes a step of the counter for
+/// each token, and work linear in the bytes; where the tokens are no program, as much again for each fixed word and
+/// each phylum of the definition.
 pub fn read_program<L: Ledger>(
     alloc: Global,
     language: &Language,

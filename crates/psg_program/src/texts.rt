@@ -8,8 +8,8 @@ use psg_tree::Tree;
 use psg_unparse::unparse;
 use std::alloc::{AllocError, Global};
 
-/// Writes the text that a file with the program is to have: its printed text and a line feed. It fails where memory runs
-/// out, and takes time linear in the text.
+/// Writes the text that a file with the program is to have: its printed text and a line feed. It fails where memory
+/// runs out, and takes time linear in the text.
 pub fn formatted(alloc: Global, definition: &Definition, tree: &Tree) -> Result<String, AllocError>
     requires sound { IsSound definition.now }
     ensures { IfOk result (λ text. string_bytes text ≡ formatted_of definition.now tree.now) }

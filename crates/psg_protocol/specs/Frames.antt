@@ -1,4 +1,4 @@
--- The frames of a list of bytes, whatever the pieces in which they come.
+-- The frames of a list of bytes, whatever the pieces in which they are read.
 use Rattle.std.specs.Prelude.{ℕ, ◌≡◌, ◌+◌, ◌-◌, ◌++◌, Bool, true, false, List, [], ◌∷◌, length, take, drop, flat_map}
 use Rattle.std.specs.Prelude.{Option, MatchOption, codes, decimal, nat_lt, if◌then◌else◌}
 use Rattle.psg_protocol.specs.Headers.{head_of}
@@ -49,7 +49,7 @@ pub record Rest : Type 0 where
 abbrev pub at_stop : Rest
 at_stop = record { passing = 0; bytes = []; stopped = true }
 
--- after an event come the others, which are there by `Others`; after the last one there is none
+-- after an event there are the others, which are there by `Others`; after the last one there is none
 abbrev pub Goes : Event → List Event → Rest → Type 0 → Type 0
 Goes (body bytes) events rest Others = Others
 Goes (long size) events rest Others = Others
@@ -70,7 +70,8 @@ is_lost (long size) = false
 is_lost lost = true
 
 -- what is found in a text: its events, and what is kept of it then, if it is not the whole text
-pub record Finds (passing : ℕ) (text : List ℕ) (events : List Event) (pass : ℕ) (kept : Option (List ℕ)) (stopped : Bool) : Type 0 where
+pub record Finds (passing : ℕ) (text : List ℕ) (events : List Event) (pass : ℕ) (kept : Option (List ℕ))
+    (stopped : Bool) : Type 0 where
   pub rest : List ℕ
   pub reads : Reads passing text events (record { passing = pass; bytes = rest; stopped = stopped })
   pub keeps : MatchOption kept (rest ≡ text) (λ bytes. bytes ≡ rest)
@@ -87,7 +88,7 @@ HasRead old piece events new = HasReadBy old.stopped old piece events new
 abbrev pub at_first : Rest
 at_first = record { passing = 0; bytes = []; stopped = false }
 
--- what is read of pieces that come one after the other
+-- what is read of pieces that are read one after the other
 abbrev pub HasReadAll : Rest → List (List ℕ) → List Event → Rest → Type 0
 HasReadAll old [] events new = (events ≡ []) × (new ≡ old)
 HasReadAll old (piece ∷ pieces) events new =

@@ -1,5 +1,6 @@
 -- A header as it is written: its lines, and an empty one.
-use Rattle.std.specs.Prelude.{ℕ, ◌≡◌, ◌≢◌, ◌+◌, ◌-◌, ◌<◌, ◌≤◌, ◌++◌, ◌⊎◌, List, [], ◌∷◌, length, slice_index, codes, true}
+use Rattle.std.specs.Prelude.{ℕ, ◌≡◌, ◌≢◌, ◌+◌, ◌-◌, ◌<◌, ◌≤◌, ◌++◌, ◌⊎◌, List, [], ◌∷◌, length, slice_index, codes}
+use Rattle.std.specs.Prelude.{true}
 use Rattle.std.specs.List.{AllByRecursion}
 use Rattle.std.specs.Str.{str_eq_ignore_ascii_case}
 use Rattle.psg_protocol.specs.Headers.{most_bytes}

@@ -1,6 +1,7 @@
 -- The header of a frame of the Language Server Protocol: lines, of which one says how many bytes follow, and an empty
 -- one.
-use Rattle.std.specs.Prelude.{ℕ, ◌+◌, ◌-◌, ◌*◌, ◌<◌, ◌≤◌, ◌==◌, ◌&&◌, ◌||◌, Bool, List, [], ◌∷◌, Option, Some, None, zero, suc}
+use Rattle.std.specs.Prelude.{ℕ, ◌+◌, ◌-◌, ◌*◌, ◌<◌, ◌≤◌, ◌==◌, ◌&&◌, ◌||◌, Bool, List, [], ◌∷◌, Option, Some, None}
+use Rattle.std.specs.Prelude.{zero, suc}
 use Rattle.std.specs.Prelude.{length, take, drop, position, slice_index, nat_lt, nat_le, codes, if◌then◌else◌}
 use Rattle.std.specs.Prelude.{option_and_then}
 use Rattle.std.specs.List.{prefix_len, suffix_len}
@@ -8,7 +9,7 @@ use Rattle.std.specs.Str.{str_eq_ignore_ascii_case}
 use Rattle.psg_protocol.specs.declared.headers.Head.{Head}
 use Rattle.psg_protocol.specs.declared.headers.Head.TheVariants as heads
 
--- a header has at most so many lines, and a line so many bytes with its line feed
+-- a header has at most that many lines, and a line that many bytes with its line feed
 abbrev pub most_lines : ℕ
 most_lines = 64
 
@@ -84,7 +85,8 @@ head_by bytes found size None next = short_head (length bytes)
 head_by bytes found size (Some feed) next =
     if length (line_at bytes feed) == 0 then ended found (size + feed + 1) else next feed
 
--- The header that the bytes begin with, after lines of `size` bytes that said `found`, and with so many lines to come.
+-- The header that the bytes begin with, after lines of `size` bytes that said `found`, and with that many lines still
+-- to be read.
 unfoldable pub head_after : ℕ → Option ℕ → ℕ → List ℕ → Head
 head_after zero found size bytes = heads.Lost
 head_after (suc lines) found size bytes = head_by bytes found size (feed_of bytes)
@@ -94,7 +96,7 @@ head_after (suc lines) found size bytes = head_by bytes found size (feed_of byte
 abbrev pub head_of : List ℕ → Head
 head_of bytes = head_after most_lines None 0 bytes
 
--- a header is within so many bytes, takes one at least, and the length that it says has at most 15 digits
+-- a header is within that many bytes, takes one at least, and the length that it says has at most 15 digits
 abbrev pub IsWithin : ℕ → Head → Type 0
 IsWithin size heads.Waits = Unit {0}
 IsWithin size heads.Lost = Unit {0}

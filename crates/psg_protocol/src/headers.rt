@@ -1,6 +1,7 @@
 //! The header of a frame.
 ghost use Rattle.std.specs.Prelude.{◌≡◌, ◌==◌, ◌+◌, ◌<◌, ◌≤◌, ◌^◌, IfSome, length, position, take};
-ghost use Rattle.psg_protocol.specs.Headers.{IsWithin, feed_of, head_after, head_of, is_blank, is_length_name, length_after};
+ghost use Rattle.psg_protocol.specs.Headers.{IsWithin, feed_of, head_after, head_of, is_blank, is_length_name};
+ghost use Rattle.psg_protocol.specs.Headers.{length_after};
 ghost use Rattle.psg_protocol.specs.Headers.{ended, number_of, short_head, trimmed, with_digit, without_return};
 ghost use Rattle.psg_protocol.specs.Headers.{most_bytes, without_end_blanks, without_front_blanks};
 
@@ -13,7 +14,7 @@ const MOST_BYTES: usize = 4096;
 /// What some bytes begin with.
 #[derive(Clone, Copy)]
 pub(crate) enum Head {
-    /// More bytes must come before it is known.
+    /// More bytes are needed before it is known.
     Waits,
     /// No length can be told.
     Lost,
@@ -29,8 +30,8 @@ pub(crate) fn head_of(bytes: &[u8]) -> Head
     head_after(MOST_LINES, None, 0, bytes)
 }
 
-/// Returns the header that the bytes begin with, after lines of `size` bytes that said `found`, and with so many lines
-/// to come.
+/// Returns the header that the bytes begin with, after lines of `size` bytes that said `found`, and with that many
+/// lines still to be read.
 fn head_after(lines: usize, found: Option<usize>, size: usize, bytes: &[u8]) -> Head
     requires { size + length bytes.now < 2 ^ 63 }
     ensures { result ≡ head_after lines found size bytes.now }
@@ -53,7 +54,7 @@ fn head_after(lines: usize, found: Option<usize>, size: usize, bytes: &[u8]) -> 
     }
 }
 
-/// Returns what is known of so many bytes without a line feed.
+/// Returns what is known of that many bytes without a line feed.
 fn short_head(size: usize) -> Head
     ensures { result ≡ short_head size }
 {

@@ -1,4 +1,4 @@
-//! Frames of the Language Server Protocol, from bytes that come by pieces.
+//! Frames of the Language Server Protocol, from bytes that are read by pieces.
 //!
 //! ```text
 //! let mut reader = FrameReader::new(alloc);
@@ -13,7 +13,7 @@
 //!
 //! A header has at most 64 lines, with the empty one, and a line at most 4,096 bytes, with its line feed. Where it has
 //! more, or no length, or one of more than 15 digits, nothing after it can be followed. A body of more than 16 MiB is
-//! passed over, and the reader tells its length at once.
+//! passed over, and the reader reports its length at once.
 #![tactic(auto)]
 
 mod headers;

@@ -1,7 +1,9 @@
-//! Frames from bytes that come by pieces.
-ghost use Rattle.std.specs.Prelude.{◌≡◌, ◌+◌, ◌<◌, ◌≤◌, ◌^◌, ◌∷◌, [], IfOk, MatchOption, OnErr, Some, drop, length, map, true};
+//! Frames from bytes that are read by pieces.
+ghost use Rattle.std.specs.Prelude.{◌≡◌, ◌+◌, ◌<◌, ◌≤◌, ◌^◌, ◌∷◌, [], IfOk, MatchOption, OnErr, Some, drop, length};
+ghost use Rattle.std.specs.Prelude.{map, true};
 ghost use Rattle.std.specs.Option.{option_map};
-ghost use Rattle.psg_protocol.specs.Frames.{Finds, HasRead, Reads, at_first, body, event_of, first_by, first_of_all, found};
+ghost use Rattle.psg_protocol.specs.Frames.{Finds, HasRead, Reads, at_first, body, event_of, first_by, first_of_all};
+ghost use Rattle.psg_protocol.specs.Frames.{found};
 ghost use Rattle.psg_protocol.specs.Frames.{framed, is_lost, most_body, nothing};
 
 use crate::headers::{Head, head_of};
@@ -17,7 +19,7 @@ const MOST_BODY: usize = 16_777_216;
 pub enum Frame {
     /// The body of a frame.
     Body(Vec<u8>),
-    /// The body of a frame has so many bytes that it is passed over.
+    /// The body of a frame has too many bytes, this number, and is passed over.
     TooLong(usize),
     /// No length can be told, so nothing after it can be followed.
     Lost,
@@ -40,7 +42,7 @@ impl Model for FrameReader {
 }
 
 impl FrameReader {
-    /// Makes a reader that nothing came to yet. Takes no memory; `alloc` keeps what waits later.
+    /// Makes a reader that has read nothing yet. Takes no memory; `alloc` keeps what waits later.
     pub fn new(alloc: Global) -> FrameReader
         ensures { result ≡ at_first }
     {
@@ -105,7 +107,7 @@ struct Found {
     stopped: bool,
 }
 
-/// Finds the frames of a text, of which so many bytes are passed over.
+/// Finds the frames of a text, of which that many bytes are passed over.
 fn next_frames(alloc: Global, passing: usize, text: &[u8]) -> Result<Found, AllocError>
     ensures { IfOk result (λ all. Finds passing text.now (map event_of all.frames.items)
         all.passing (option_map (λ kept. kept.items) all.kept) all.stopped) }
@@ -131,7 +133,7 @@ fn next_frames(alloc: Global, passing: usize, text: &[u8]) -> Result<Found, Allo
     })
 }
 
-/// Returns the text without so many bytes at its front.
+/// Returns the text without that many bytes at its front.
 #[tactic(auto, using(crate::proofs::TextLaws::drop_past))]
 fn without_front(text: &[u8], size: usize) -> &[u8]
     ensures { result.now ≡ drop size text.now }

@@ -18,7 +18,7 @@ fn after(ranges: &[Range], count: usize) -> &[Range]
     }
 }
 
-/// Returns the ranges of the nodes beside the first one, which come after it.
+/// Returns the ranges of the nodes beside the first one, which follow it.
 fn beside(ranges: &[Range]) -> &[Range]
     ensures { (f : Forest) → ranges_in f ≡ ranges.now → ranges_in (from_nth f 1) ≡ result.now }
 {

@@ -42,7 +42,7 @@ pub fn parse_ranged<L: Ledger>(
     requires around { goal.around ≤ MOST_BRACKETS }
     ensures tree { IfOk result (λ made. IsParsed definition.now goal tokens.now made.tree) }
     ensures formed { IfOk result (λ made. WellFormed definition.now made.tree goal.kind) }
-    // each derivation of the tree from the tokens says the same of its nodes
+    // each derivation of the tree from the tokens says this of its nodes, too
     ensures ranges { IfOk result (λ made. (nesting : ℕ) (y : Reads definition.now goal tokens.now made.tree nesting)
         → made.ranges.nodes
         ≡ ranges_in (nodes_of definition.now made.tree goal.kind goal.least nesting (tokens_of tokens.now) y)) }

@@ -55,7 +55,7 @@ pub fn ranges_of(
     tokens: &[Spanned],
 ) -> Result<Ranges, AllocError>
     requires class { IsClass definition.now }
-    // each derivation of the tree from the tokens says the same of its nodes
+    // each derivation of the tree from the tokens says this of its nodes, too
     ensures { IfOk result (λ made. (level nesting : ℕ)
         (y : Yields definition.now tree.now kind level nesting (tokens_of tokens.now))
         → made.nodes ≡ ranges_in (nodes_of definition.now tree.now kind level nesting (tokens_of tokens.now) y)) }

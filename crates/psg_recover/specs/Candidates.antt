@@ -1,5 +1,6 @@
 -- What may take the place of tokens in front of a stop, in the order in which it is tried.
-use Rattle.std.specs.Prelude.{ℕ, ◌≡◌, ◌<◌, ◌≤◌, ◌⊎◌, Bool, true, false, cond, List, [], ◌∷◌, ◌++◌, take, drop, Some, slice_get}
+use Rattle.std.specs.Prelude.{ℕ, ◌≡◌, ◌<◌, ◌≤◌, ◌⊎◌, Bool, true, false, cond, List, [], ◌∷◌, ◌++◌, take, drop, Some}
+use Rattle.std.specs.Prelude.{slice_get}
 use Rattle.std.specs.List.{AllByRecursion}
 use Rattle.psg_terms.specs.Relations.{IsIn}
 use Rattle.psg_grammar.specs.declared.types.Kind.{Kind}
@@ -36,7 +37,7 @@ module _ (def : Definition) (kind : Kind) where
   abbrev pub IsTriedBefore : ℕ → ℕ → Candidate → Type 0
   IsTriedBefore from p c = (from < c.from) ⊎ ((from ≡ c.from) × (c.phylum < p))
 
-  -- each is tried before all that come after it
+  -- each is tried before all that follow it
   abbrev pub AreInTurn : List Candidate → Type 0
   AreInTurn [] = Unit {0}
   AreInTurn (c ∷ cs) = AllByRecursion (λ (d : Candidate). IsTriedBefore d.from d.phylum c) cs × AreInTurn cs
@@ -62,7 +63,7 @@ pub record IsFirst {X : Type 0} (P : X → Type 0) (xs : List X) (x : X) : Type 
   pub holds : P x
   pub none : (y : X) → IsIn y front → P y → ⊥
 
--- ---- what may come after a stop
+-- ---- what may follow a stop
 
 -- it is a placeholder that the language does not have
 abbrev pub is_lost_wanted : Definition → Wanted → Bool

@@ -15,7 +15,7 @@ grade_text grades.Error = codes "error"
 grade_text grades.Warning = codes "warning"
 grade_text grades.Note = codes "note"
 
--- errors are told before warnings, and these before notes
+-- errors are reported before warnings, and these before notes
 abbrev pub rank : Grade → ℕ
 rank grades.Error = 0
 rank grades.Warning = 1

@@ -51,7 +51,7 @@ plain_list l = record {
   cell_rows = [];
 }
 
--- its trees have the same tokens as those of the definition, but for the placeholders of phyla that declare there
+-- its trees have the same tokens as those of the definition, except the placeholders of phyla that declare there
 abbrev pub quiet : Definition → Definition
 quiet def = record {
   version = def.version;

@@ -68,8 +68,9 @@ abbrev pub ProgramsLoseNothing : Definition → Type 0
 ProgramsLoseNothing def = (kind : Kind) (text : List ℕ) (f : Fragment) (nesting : ℕ) → ReadsAs def kind 0 text f nesting
     → LosesNothing def kind text f
 
--- The first of the stops is what `format` tells. There are none where the text is too deep or too large.
+-- The first of the stops is what `format` reports. There are none where the text is too deep or too large.
 abbrev pub BeginsAsFormat : Definition → Type 0
 BeginsAsFormat def = (kind : Kind) (text : List ℕ) (byte : ℕ) (message : List ℕ)
     → HasNoProgram def kind text byte message → (stops : List Finding) (last : Option (List Spanned))
-    → HasStops def kind text stops last → (stops ≡ []) ⊎ ((more : List Finding) × (stops ≡ error_at byte message ∷ more))
+    → HasStops def kind text stops last → (stops ≡ [])
+    ⊎ ((more : List Finding) × (stops ≡ error_at byte message ∷ more))

@@ -17,7 +17,8 @@ is_lost def _ = false
 abbrev pub left_out : Definition → Fragment → Fragment
 left_out def (hole p) = hole p
 left_out def (ending l u) = ending l u
-left_out def (cell l e r) = cond (is_lost def e) (ended true (left_out def r)) (cell l (left_out def e) (left_out def r))
+left_out def (cell l e r) = cond (is_lost def e) (ended true (left_out def r))
+    (cell l (left_out def e) (left_out def r))
 left_out def (operator o) = operator o
 left_out def (with_child f t) = with_child (left_out def f) (left_out def t)
 left_out def (with_name f x) = with_name (left_out def f) x

@@ -1,9 +1,10 @@
 -- How a text that is no program is read on after a stop.
 --
--- A part of the tokens is passed over, and the placeholder of a phylum takes its place. A phylum that declares has none in
--- the language, but has one in the grammar in which nothing declares, which reads these tokens. At the end such
+-- A part of the tokens is passed over, and the placeholder of a phylum takes its place. A phylum that declares has none
+-- in the language, but has one in the grammar in which nothing declares, which reads these tokens. At the end such
 -- placeholders are left out, and their lists are unfinished.
-use Rattle.std.specs.Prelude.{ℕ, suc, ◌≡◌, ◌<◌, ◌≤◌, ◌⊎◌, ◌==◌, ◌&&◌, ◌||◌, not, nat_lt, Bool, true, false, cond, List, [], ◌∷◌, ◌++◌, length, map, take, drop, bytes_eq, Option, Some, None, slice_get}
+use Rattle.std.specs.Prelude.{ℕ, suc, ◌≡◌, ◌<◌, ◌≤◌, ◌⊎◌, ◌==◌, ◌&&◌, ◌||◌, not, nat_lt, Bool, true, false, cond, List}
+use Rattle.std.specs.Prelude.{[], ◌∷◌, ◌++◌, length, map, take, drop, bytes_eq, Option, Some, None, slice_get}
 use Rattle.psg_terms.specs.Names.{Name}
 use Rattle.psg_grammar.specs.declared.types.Kind.{Kind}
 use Rattle.psg_grammar.specs.declared.types.Kind.TheVariants as kinds
@@ -23,7 +24,7 @@ use Rattle.psg_recover.specs.Findings.{error_at}
 use Rattle.psg_recover.specs.Grammars.{quiet}
 use Rattle.psg_recover.specs.Reads.{is_declaring_name, own_spanned, stand_in}
 
--- so many stops are told at most
+-- that many stops are reported at most
 abbrev pub most_stops : ℕ
 most_stops = 20
 
@@ -59,7 +60,7 @@ module _ (def : Definition) (kind : Kind) where
     pub part : Begins (quiet def) (kinds.Phylum p) 0 (drop i (take k ts))
     pub goes_on : GoesOnAt (take i ts ++ placeholder phylum.name ∷ []) (slice_get ts j)
 
-  -- fewer tokens after the stop are passed over, then fewer before it, then the phylum comes first
+  -- fewer tokens after the stop are passed over, then fewer before it, then the phylum is first
   abbrev pub ComesFirst : ℕ → ℕ → ℕ → ℕ → ℕ → ℕ → Type 0
   ComesFirst j i p j' i' p' = (j < j') ⊎ ((j ≡ j') × ((i' < i) ⊎ ((i ≡ i') × (p < p'))))
 
@@ -75,7 +76,7 @@ module _ (def : Definition) (kind : Kind) where
     pub goes : GoesWith (quiet def) kind 0 ts terminal
     pub own : (name : Name) → terminal ≡ a_hole name → is_declaring_name def 0 def.phyla name ≡ false
 
-  -- what is told of a stop
+  -- what is reported about a stop
   pub record IsStopTold (text : List ℕ) (ts : List Spanned) (k : ℕ) (told : Finding) : Type 0 where
     pub none : MayEnd (quiet def) kind 0 (tokens_of ts) → ⊥
     pub stop : IsStop (quiet def) kind 0 (tokens_of ts) k
@@ -85,8 +86,8 @@ module _ (def : Definition) (kind : Kind) where
     pub is_end_told : IsEndTold (MayEnd (quiet def) kind 0 (take k (tokens_of ts))) ends
     pub told_is : told ≡ error_at (stop_byte ts k) (stop_message text ts k (words ++ ends))
 
-  -- What is told of the stops, of which there were some before, and the tokens that are read at last; none where
-  -- nothing goes on, or after the last stop that is told.
+  -- What is reported about the stops, of which there were some before, and the tokens that are read at last; none where
+  -- nothing goes on, or after the last stop that is reported.
   pub data AreStops (text : List ℕ) : ℕ → List Spanned → List Finding → Option (List Spanned) → Type 0 where
     all_read : (n : ℕ) (ts : List Spanned) → MayEnd (quiet def) kind 0 (tokens_of ts)
         → AreStops text n ts [] (Some ts)

@@ -18,7 +18,8 @@ module _ (def : Definition) (kind : Kind) (text : List ℕ) where
     pub spans : (m : ℕ) → from ≤ m → HasSpan text (slice_get ts m)
     pub begins : Begins (quiet def) kind 0 (tokens_of (take from ts))
 
-  -- What is told of a stop, where so many were told before, and the tokens that are read on, if there are some.
+  -- What is reported about a stop, where that many were reported before, and the tokens that are read on, if there are
+  -- some.
   pub data IsPassed (n : ℕ) (ts : List Spanned) (told : Finding) : Option (List Spanned) → Type 0 where
     ends_there : (k : ℕ) → IsStopTold def kind text ts k told → (most_stops ≤ suc n) ⊎ HasNone def kind (tokens_of ts) k
         → IsPassed n ts told None

@@ -84,7 +84,7 @@ module _ (def : Definition) (r : Read) where
   abbrev pub first_byte : ℕ
   first_byte = token_byte r.tokens 0
 
-  -- where it is told that the place is blamed
+  -- where it is reported that the place is blamed
   abbrev pub place_byte : Place → ℕ
   place_byte (Node path) = node_byte path
   place_byte (Element path) = node_byte path

@@ -25,13 +25,15 @@ use std::alloc::{AllocError, Global};
 /// What reads a text.
 #[derive(Clone, Copy)]
 pub struct Reader<'a> {
+    /// The definition of the language.
     pub known: Known<'a>,
     /// The grammar in which nothing declares.
     pub grammar: &'a Grammar,
+    /// The kind of the program.
     pub kind: Kind,
 }
 
-/// A tree of the kind, with no brackets around it.
+/// Returns the goal of a tree of the kind, with no brackets around it. Takes no memory.
 pub fn whole(kind: Kind) -> Goal
     ensures kind { result.kind ≡ kind }
     ensures least { result.least ≡ 0 }
@@ -107,14 +109,18 @@ fn may_stand(reader: Reader, phylum: u32) -> bool
 pub struct Candidate {
     /// The number of its first token.
     pub from: usize,
+    /// The number of the phylum.
     pub phylum: u32,
 }
 
 /// Where reading goes on: a placeholder of the phylum takes the place of the tokens from `from` up to `to`.
 #[derive(Clone, Copy)]
 pub struct Resumption {
+    /// The number of the first token that is passed over.
     pub from: usize,
+    /// The number of the first token after those.
     pub to: usize,
+    /// The number of the phylum.
     pub phylum: u32,
 }
 

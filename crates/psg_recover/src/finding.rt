@@ -1,4 +1,4 @@
-//! What is told of a byte of a text.
+//! What is reported about a byte of a text.
 ghost use Rattle.std.specs.Prelude.{◌≡◌, IfOk, string_bytes};
 ghost use Rattle.psg_recover.specs.Findings.{error_at, note_at, warning_at};
 
@@ -16,14 +16,14 @@ pub enum Grade {
     Note,
 }
 
-/// What is told of a byte of a text.
+/// What is reported about a byte of a text.
 #[derive(Debug, Drop)]
 pub struct Finding {
     /// The byte, from 0.
     pub byte: usize,
     /// How much it matters.
     pub grade: Grade,
-    /// What is told, on one line.
+    /// What is reported, on one line.
     pub message: Txt,
 }
 

@@ -14,7 +14,9 @@ use std::alloc::{AllocError, Global};
 /// The grammar, and what the parser looks up of it.
 #[derive(Drop)]
 pub struct Grammar {
+    /// The definition whose trees have this grammar.
     pub definition: Definition,
+    /// What the parser looks up.
     pub table: ParseTable,
 }
 

@@ -2,7 +2,8 @@
 ghost use Rattle.psg_class.specs.Class.{IsClass};
 ghost use Rattle.psg_grammar.specs.Sound.{IsSound};
 ghost use Rattle.psg_stop.specs.Accepted.{CanEnd};
-ghost use Rattle.psg_recover.specs.Leaving.{BeginsAsFormat, LeavesTrees, ProgramsLoseNothing, ReadStandIns, YieldStandIns};
+ghost use Rattle.psg_recover.specs.Leaving.{BeginsAsFormat, LeavesTrees, ProgramsLoseNothing, ReadStandIns};
+ghost use Rattle.psg_recover.specs.Leaving.{YieldStandIns};
 
 use psg_grammar::Definition;
 
@@ -27,7 +28,7 @@ pub fn programs_lose_nothing(_definition: &Definition)
     ensures { ProgramsLoseNothing _definition.now }
 {}
 
-/// States that the first stop of a text is told as `format` tells it. The call has no cost.
+/// States that the first stop of a text is reported as `format` reports it. The call has no cost.
 pub fn begins_as_format(_definition: &Definition)
     requires can_end { CanEnd _definition.now }
     requires class { IsClass _definition.now }

@@ -6,9 +6,9 @@
 //! ```
 //!
 //! A text that is no program is read on after the place where it stops to be one: a placeholder takes the place of what
-//! can't be read. At most twenty such places are told. An element of a list that declares names may be lost; then the
-//! list is unfinished, so that the lost names give no further errors. Each node and name of what is left has its bytes
-//! in the text.
+//! can't be read. At most twenty such places are reported. An element of a list that declares names may be lost; then
+//! the list is unfinished, so that the lost names give no further errors. Each node and name of what is left has its
+//! bytes in the text.
 #![tactic(auto)]
 
 pub mod candidates;

@@ -238,8 +238,8 @@ fn child_of(tree: Option<&Tree>, number: u32) -> Option<&Tree>
     }
 }
 
-/// Returns the path in the tree of the node that the path leads to in what is left of it. It walks along the path, and over
-/// the elements before it.
+/// Returns the path in the tree of the node that the path leads to in what is left of it. It walks along the path, and
+/// over the elements before it.
 pub fn path_back(
     alloc: Global,
     known: Known,

@@ -19,7 +19,7 @@ use psg_program::{expected_words, stop_byte, stop_message};
 use psg_stop::{Stop, Wanted, find_stop};
 use std::alloc::{AllocError, Global};
 
-/// How many stops are told at most.
+/// How many stops are reported at most.
 const MOST_STOPS: usize = 20;
 
 /// Says whether it is the placeholder of a phylum that declares.
@@ -33,7 +33,7 @@ fn is_lost(known: Known, wanted: &Wanted) -> bool
     }
 }
 
-/// Adds what may come next, if the language has it.
+/// Adds what may be next, if the language has it.
 fn push_own(known: Known, one: Wanted, wanted: &mut Vec<Wanted>) -> Result<(), AllocError>
     requires known { IsKnown known }
     ensures { OnOk result (wanted.new.items ≡ wanted.old.items ++ own_wanted known.entry.definition.now (one ∷ [])) }
@@ -45,7 +45,7 @@ fn push_own(known: Known, one: Wanted, wanted: &mut Vec<Wanted>) -> Result<(), A
     Ok(())
 }
 
-/// Returns what may come next without the placeholders that the language does not have.
+/// Returns what may be next without the placeholders that the language does not have.
 fn own_only(alloc: Global, known: Known, all: Vec<Wanted>) -> Result<Vec<Wanted>, AllocError>
     requires known { IsKnown known }
     ensures { IfOk result (λ made. made.items ≡ own_wanted known.entry.definition.now all.items) }
@@ -75,14 +75,14 @@ fn without_lost(alloc: Global, reader: Reader, stop: Stop) -> Result<Stop, Alloc
     })
 }
 
-/// What is told of a stop, and its number.
+/// What is reported about a stop, and its number.
 #[derive(Drop)]
 struct Told {
     finding: Finding,
     stop: usize,
 }
 
-/// Returns what is told of the tokens' stop, and its number.
+/// Returns what is reported about the tokens' stop, and its number.
 fn told_stop(
     alloc: Global,
     reader: Reader,
@@ -109,15 +109,17 @@ fn told_stop(
     })
 }
 
-/// What is told of the stops, and the tokens that are read at last, if any are.
+/// What is reported about the stops, and the tokens that are read at last, if any are.
 #[derive(Drop)]
 pub struct Stops {
+    /// What is reported about each stop.
     pub told: Vec<Finding>,
+    /// The tokens that are read at last.
     pub last: Option<Vec<Spanned>>,
 }
 
-/// Tells the stop of the tokens, and returns those that are read on after it; none where nothing goes on, or after the
-/// last stop that is told.
+/// Reports the stop of the tokens, and returns those that are read on after it; none where nothing goes on, or after
+/// the last stop that is reported.
 fn passed(
     alloc: Global,
     reader: Reader,
@@ -149,9 +151,9 @@ fn passed(
     }
 }
 
-/// Tells the stops of the tokens, and returns those that are read at last. It tries each part in front of a stop with each
-/// phylum, and each of those that may be there with each token after the stop, until one goes on. Each is read to its end,
-/// so a stop may take the cube of the tokens.
+/// Reports the stops of the tokens, and returns those that are read at last. It tries each part in front of a stop with
+/// each phylum, and each of those that may be there with each token after the stop, until one goes on. Each is read to
+/// its end, so a stop may take the cube of the tokens.
 pub fn all_stops(
     alloc: Global,
     reader: Reader,

@@ -18,11 +18,13 @@ use std::alloc::{AllocError, Global};
 /// Where the nodes and names of a program are in its text. The program is what is left of a tree without lost elements.
 #[derive(Clone, Copy)]
 pub struct Spots<'a> {
+    /// The tokens of the text.
     pub tokens: &'a [Spanned],
     /// Where the nodes of the whole tree are among the tokens.
     pub ranges: &'a Ranges,
     /// The whole tree.
     pub whole: &'a Tree,
+    /// The definition of the language.
     pub known: Known<'a>,
 }
 
@@ -36,7 +38,7 @@ fn token_byte(tokens: &[Spanned], number: usize) -> usize
     }
 }
 
-/// Returns the end of the last of the first so many tokens, or 0 where there is none.
+/// Returns the end of the last of that many tokens at the front, or 0 if there is none.
 fn end_before(tokens: &[Spanned], number: usize) -> usize
     ensures { result ≡ end_before_of tokens.now number }
 {
@@ -163,7 +165,7 @@ impl<'a> Spots<'a> {
         token_byte(self.tokens, 0)
     }
 
-    /// Returns the byte at which it is told that the place is blamed.
+    /// Returns the byte at which it is reported that the place is blamed.
     pub fn place(self, alloc: Global, place: &Place) -> Result<usize, AllocError>
         requires known { IsKnown self.known }
         ensures { IfOk result (λ byte. (nodes : Forest) → AreNodesOf self.entry nodes

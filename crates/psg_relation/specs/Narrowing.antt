@@ -43,7 +43,7 @@ abbrev pub IsShared : List Term → List Term → ℕ → ℕ → ℕ → Type 0
 IsShared left right count k place = ((t : Term) × (slice_get (left ++ right) k ≡ Some t) × (above_of t ≡ 0))
     × (place ≡ count + k)
 
--- the number of a narrow column, where the left row has this number of them and the right ones come after them
+-- the number of a narrow column, where the left row has this number of them and the right ones follow them
 abbrev pub number_of : ℕ → Side → ℕ
 number_of width (Left j) = j
 number_of width (Right j) = width + j

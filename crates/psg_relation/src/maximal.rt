@@ -200,10 +200,10 @@ fn with_row(alloc: Global, kept: Kept, column: usize, row: RelRow) -> Result<Kep
     Ok(general)
 }
 
-/// Returns the most general rows, each once, in their order. A row is compared with those that are kept so far and
-/// have its constructor, or a variable, at the head of one column: the first one of fewer than sixteen rows, and else
-/// one by whose heads the fewest pairs of rows are compared. A row with a variable there, and a row that has an instance
-/// among them, may be compared with all of them. All kept rows are moved where a row has an instance among them.
+/// Returns the most general rows, each once, in their order. A row is compared with those that are kept so far and have
+/// its constructor, or a variable, at the head of one column: the first one of fewer than sixteen rows, and else one by
+/// whose heads the fewest pairs of rows are compared. A row with a variable there, and a row that has an instance among
+/// them, may be compared with all of them. All kept rows are moved where a row has an instance among them.
 pub fn maximal(alloc: Global, rows: Vec<RelRow>) -> Result<Vec<RelRow>, AllocError>
     ensures sifted { IfOk result (λ kept. IsSifted rows.items kept.items) }
     ensures order { IfOk result (λ kept. KeepsOrder rows.items kept.items) }

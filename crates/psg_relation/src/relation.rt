@@ -181,7 +181,8 @@ fn canonical_rows(
     Ok(made)
 }
 
-/// Returns the relation of rows of which those that are not too large are canonical.
+/// Returns the relation of the rows, of which those that are not too large are canonical. An error is `Wide` if a row,
+/// or all together, pass the limit.
 pub fn relation_of(alloc: Global, sig: &Signature, rows: Vec<RelRow>) -> Result<Rel, RelFault>
     requires sorts { (sorts : List ℕ) × AllHaveSorts sig.now rows.items sorts }
     requires ready { AllReady sig.now rows.items }
@@ -201,7 +202,8 @@ pub fn relation_of(alloc: Global, sig: &Signature, rows: Vec<RelRow>) -> Result<
     }
 }
 
-/// Returns the relation of the most general rows, unless they are too large together.
+/// Returns the relation of the most general rows. An error is `Wide` if they are too large together. It walks once over
+/// the rows.
 pub fn sealed(sig: &Signature, kept: Vec<RelRow>) -> Result<Rel, RelFault>
     requires sound { IsSound sig.now }
     requires sorted { (sorts : List ℕ) × AllHaveSorts sig.now kept.items sorts }

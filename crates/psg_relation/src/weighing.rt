@@ -39,8 +39,11 @@ pub fn row_above(row: &[Term]) -> u64
 /// one above the greatest number of its variables.
 #[derive(Clone, Copy)]
 pub struct Measures {
+    /// How many variables and constructors it has.
     pub symbols: u64,
+    /// How deep its deepest term is.
     pub depth: u64,
+    /// One above the greatest number of its variables, and 0 if it has none.
     pub above: u64,
 }
 

@@ -20,7 +20,7 @@ pub struct NameCol {
 }
 
 impl NameCol {
-    /// How the keys are ordered: by the bytes of the names and, for one name, by the numbers of the spaces.
+    /// Compares two keys: by the bytes of the names and, for one name, by the numbers of the spaces.
     pub(crate) fn order(&self, other: &NameCol) -> Ordering
         ensures { result ≡ key_cmp (key_of self.now) (key_of other.now) }
     {

@@ -29,7 +29,7 @@ pub(crate) enum First<'a> {
     End,
 }
 
-/// Which of the first keys of two lists is the next one: the lesser, or both where they are equal.
+/// Says which of the first keys of two lists is the next one: the lesser, or both if they are equal.
 fn next<'a>(left: &'a [NameCol], right: &'a [NameCol]) -> First<'a>
     ensures { IsNext left.now right.now result }
 {
@@ -162,7 +162,7 @@ impl Merging {
     }
 }
 
-/// Without a branch, so that what follows is proved once.
+/// Says whether one of the two holds. It has no branch, so that what follows a call is proved once.
 pub(crate) fn is_either(one: bool, two: bool) -> bool
     ensures { result ≡ (one || two) }
 {

@@ -239,7 +239,7 @@ pub fn form_menu(alloc: Global, behind: &str) -> Result<Option<Command>, AllocEr
     }
 }
 
-/// `names PATH OP` or `names PATH K OP`
+/// Reads `names PATH OP` or `names PATH K OP`.
 pub fn form_names(alloc: Global, behind: &str) -> Result<Option<Command>, AllocError>
     requires { IsBehind behind.now }
     ensures { IfOk result (Reads (IsForm Keyword.Names) behind.now) }

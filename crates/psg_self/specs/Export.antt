@@ -39,7 +39,7 @@ level_words (levels.InfixLeft n) = codes "infixl" ∷ decimal n ∷ []
 level_words (levels.InfixRight n) = codes "infixr" ∷ decimal n ∷ []
 level_words (levels.InfixNone n) = codes "infix" ∷ decimal n ∷ []
 
--- the terms of a row's columns, behind a colon where there are any
+-- the terms of a row's columns, after a colon if there are any
 abbrev pub column_words : List WrittenTerm → List (List ℕ)
 column_words [] = []
 column_words (t ∷ rest) = codes ":" ∷ map term_text (t ∷ rest)
@@ -66,7 +66,7 @@ spaced (w ∷ rest) = w ++ flat_map (λ v. 32 ∷ v) rest
 abbrev pub exported_line : Line → List ℕ
 exported_line line = spaced (exported_words line) ++ 10 ∷ []
 
--- the exported text: the head of version 1, and a line for each line that the tree stands for
+-- the exported text: the head of version 1, and a line for each line that the tree represents
 abbrev pub exported : Fragment → List ℕ
 exported f = codes "psg 1\n" ++ flat_map exported_line (lines_in f)
 

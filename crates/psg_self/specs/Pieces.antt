@@ -1,5 +1,6 @@
 -- The parts of a line in a text, where names may have any letters. For proofs alone.
-use Rattle.std.specs.Prelude.{ℕ, ◌≡◌, ◌<◌, ◌||◌, nat_le, Bool, true, false, List, [], ◌∷◌, ◌++◌, length, replicate, IsUtf8}
+use Rattle.std.specs.Prelude.{ℕ, ◌≡◌, ◌<◌, ◌||◌, nat_le, Bool, true, false, List, [], ◌∷◌, ◌++◌, length, replicate}
+use Rattle.std.specs.Prelude.{IsUtf8}
 use Rattle.std.specs.List.{list_all}
 use Rattle.psg_deflines.specs.Written.{goes_on_word}
 use Rattle.psg_deflines.specs.WrittenTrees.{quoted_part}
@@ -34,5 +35,6 @@ IsEnded (quote_piece w e u) x = Unit {0}
 -- the text has these parts in order, with any number of spaces in front of each
 abbrev pub Laid : List (List ℕ) → List ℕ → Type 0
 Laid [] x = x ≡ []
-Laid (p ∷ ps) x = (n : ℕ) × (rest : List ℕ) × (piece : Piece p) × (x ≡ replicate n 32 ++ (p ++ rest)) × IsEnded piece rest
+Laid (p ∷ ps) x = (n : ℕ) × (rest : List ℕ) × (piece : Piece p) × (x ≡ replicate n 32 ++ (p ++ rest))
+    × IsEnded piece rest
     × Laid ps rest

@@ -21,8 +21,8 @@ HasPlainVariables (lines.Row head columns) = HasPlainNames head × AllByRecursio
 HasPlainVariables (lines.Hole kind term specimen) = HasPlainNames term
 HasPlainVariables _ = Unit {0}
 
--- A variable has one sort in its line: the line's terms and specimens are at places of their sorts, for some sorts of its
--- variables. `numbered` does not say it of a variable one of whose places has a one-constant sort.
+-- A variable has one sort in its line: the line's terms and specimens are at places of their sorts, for some sorts of
+-- its variables. `numbered` does not say it of a variable one of whose places has a one-constant sort.
 abbrev pub AreSorted : List Line → List Line → List Line → Type 0
 AreSorted file above [] = Unit {0}
 AreSorted file above (line ∷ rest) = ((IsSorted file above line → ⊥) → ⊥) × AreSorted file (above ++ line ∷ []) rest

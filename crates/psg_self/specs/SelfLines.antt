@@ -1,4 +1,4 @@
--- The lines of a definition file that a tree of the language stands for.
+-- The lines of a definition file that a tree of the language represents.
 use Rattle.std.specs.Prelude.{ℕ, Bool, true, false, cond, bytes_eq, List, [], ◌∷◌, map, codes, Option, Some, None}
 use Rattle.std.specs.List.{flat_map}
 use Rattle.psg_terms.specs.Names.{Name}
@@ -34,7 +34,7 @@ abbrev mutual
   terms_of (cell l e r) = term_of e ∷ terms_of r
   terms_of _ = []
 
--- parts behind what is written before them
+-- parts after what is written before them
 abbrev pub with_trees : WrittenTree → List WrittenTree → WrittenTree
 with_trees front [] = front
 with_trees front (t ∷ ts) = with_trees (trees.with_tree front t) ts
@@ -111,7 +111,7 @@ operator_line f =
 abbrev pub hole_line : Fragment → Line
 hole_line f = lines.Hole (name_at f 0) (term_in (tree_at f 1)) (Some (specimen_in (tree_at f 2)))
 
--- an operator's rows are on lines behind it
+-- an operator's rows are on lines after it
 abbrev pub lines_by : Option Form → Fragment → List Line
 lines_by (Some forms.SortLine) f = sort_line f ∷ []
 lines_by (Some forms.PhylumLine) f = phylum_line false f ∷ []
@@ -123,6 +123,6 @@ lines_by _ f = []
 abbrev pub lines_of : Fragment → List Line
 lines_of f = lines_by (form_of f) f
 
--- the lines that a list of lines stands for
+-- the lines that a list of lines represents
 abbrev pub lines_in : Fragment → List Line
 lines_in f = flat_map lines_of (elements_of f)

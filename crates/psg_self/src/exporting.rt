@@ -22,13 +22,13 @@ use psg_specimen::Language;
 use psg_tree::Tree;
 use std::alloc::Global;
 
-/// Returns the exported text of a tree of the language of definitions: `psg 1`, and a line for each line of the tree and
-/// for each row of an operator. The language itself is not read.
+/// Returns the exported text of a tree of the language of definitions: `psg 1`, and a line for each line of the tree
+/// and for each row of an operator. The language itself is not read.
 ///
 /// `Unfinished` is returned exactly where the tree has a placeholder or an unfinished list, with the path of the first
-/// one in the order of its text; `Memory` where memory runs out, at any time, or where 32 bits do not count the children
-/// of a node. It takes time linear in the text and in the lengths of the paths of all nodes, and calls itself as deep as
-/// the tree is nested.
+/// one in the order of its text; `Memory` where memory runs out, at any time, or where 32 bits do not count the
+/// children of a node. It takes time linear in the text and in the lengths of the paths of all nodes, and calls itself
+/// as deep as the tree is nested.
 pub fn export(alloc: Global, language: &Language, tree: &Tree) -> Result<Vec<u8>, ExportFault>
     requires itself { IsSelf language.now }
     requires formed { WellFormed language.now tree.now (kinds.List 0) }

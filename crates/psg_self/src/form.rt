@@ -2,7 +2,7 @@
 ghost use Rattle.std.specs.Prelude.{◌≡◌};
 ghost use Rattle.psg_self.specs.SelfLanguage.{form_at};
 
-/// What an operator of the language of definitions stands for.
+/// What an operator of the language of definitions represents.
 #[derive(Clone, Copy)]
 pub enum Form {
     /// The line of a sort.

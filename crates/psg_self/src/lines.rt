@@ -266,7 +266,7 @@ fn write_operator_lines(out: &mut String, line: &Tree) -> Result<(), AllocError>
     write_rows(out, elements_at(line, 4))
 }
 
-/// Writes the lines that a node stands for: one, and for an operator those of its rows too.
+/// Writes the lines that a node represents: one, and for an operator those of its rows too.
 fn write_lines(out: &mut String, line: &Tree) -> Result<(), AllocError>
     ensures { OnOk result (string_bytes out.new
         ≡ string_bytes out.old ++ flat_map exported_line (lines_of line.now)) }
@@ -284,7 +284,7 @@ fn write_lines(out: &mut String, line: &Tree) -> Result<(), AllocError>
     }
 }
 
-/// Writes the lines that the nodes stand for.
+/// Writes the lines that the nodes represent.
 fn write_all(out: &mut String, nodes: &[Tree]) -> Result<(), AllocError>
     ensures { OnOk result (string_bytes out.new
         ≡ string_bytes out.old ++ flat_map (λ n. flat_map exported_line (lines_of n)) nodes.now) }
@@ -295,7 +295,7 @@ fn write_all(out: &mut String, nodes: &[Tree]) -> Result<(), AllocError>
     Ok(())
 }
 
-/// Returns the exported text of a tree: the head of version 1, and the lines that its elements stand for. It walks the
+/// Returns the exported text of a tree: the head of version 1, and the lines that its elements represent. It walks the
 /// tree once.
 pub fn exported_text(alloc: Global, tree: &Tree) -> Result<String, AllocError>
     ensures { IfOk result (λ text. string_bytes text ≡ exported tree.now) }

@@ -15,8 +15,8 @@ module _ (def : Definition) (s : State) where
   abbrev pub OfBytes : Name → (List ℕ → Type 0) → Type 0
   OfBytes name P = (x : Saved) × (saved_at s.saved name ≡ Some x) × P (bytes_of def x)
 
-  -- What a command asks of the files, where no test before that refuses it: that these bytes are written to the file,
-  -- or that the file is read. No other command asks.
+  -- What a command asks of the files, if no test before that refuses it: that these bytes are written to the file, or
+  -- that the file is read. No other command asks.
   abbrev pub Asks : Command → Asked → Type 0
   Asks (Keep name file) asked = OfBytes name (λ bytes. (length bytes ≤ most_kept_bytes) × (asked ≡ keeping file bytes))
   Asks (Fetch file) asked = asked ≡ fetching file

@@ -41,7 +41,7 @@ module _ (def : Definition) where
   Suits items.Text leaf = IsTextLeaf leaf
   Suits _ leaf = ⊥
 
-  -- the leaves from the number on are those of the item and the rest, just where those from the next number on are
+  -- the leaves from the number on are those of the item and the rest, exactly if those from the next number on are
   -- those of the rest
   abbrev pub IsNextLeaf : List Leaf → ℕ → Item → Option ℕ → Type 0
   IsNextLeaf leaves n i None = (rest : List Item)

@@ -1,4 +1,4 @@
--- What is found and replied where operators and names are tried at a place.
+-- What is found and replied when operators and names are tried at a place.
 use Rattle.std.specs.Prelude.{ℕ, ◌≡◌, ◌<◌, ◌+◌, ◌⊎◌, length, Option, Some, None, Result, Ok, Err}
 use Rattle.psg_terms.specs.Names.{Name}
 use Rattle.psg_grammar.specs.declared.types.Kind.TheVariants as kinds

@@ -52,12 +52,12 @@ use Rattle.psg_session.specs.Views.{reply_of}
 
 -- ---- what a command does to the editor
 
--- the state with another tree of the opened kind; where nothing is opened it stays
+-- the state with another tree of the opened kind; if nothing is opened, it stays
 abbrev pub changed : State → Option Opened → Fragment → Path → State
 changed s None tree path = s
 changed s (Some old) tree path = with_change s old tree path
 
--- The state in which the nearest earlier tree is opened, or the nearest later one; where there is none it stays.
+-- The state in which the nearest earlier tree is opened, or the nearest later one; if there is none, it stays.
 abbrev pub undone : State → Option Opened → List Fragment → Path → State
 undone s None earlier cursor = s
 undone s (Some old) [] cursor = s
@@ -69,7 +69,7 @@ undone s (Some old) (tree ∷ rest) cursor = record {
   saved = s.saved;
 }
 
--- The state in which the nearest later tree is opened; where there is none it stays.
+-- The state in which the nearest later tree is opened; if there is none, it stays.
 abbrev pub redone : State → Option Opened → List Fragment → Path → State
 redone s None later cursor = s
 redone s (Some old) [] cursor = s
@@ -145,7 +145,7 @@ IfFound (Ok outcome) P = P outcome
 IfFound (Err (stops.Refused r)) P = P (Stays (Refused r))
 IfFound (Err stops.Memory) P = Unit {0}
 
--- the editor went on with another version of the opened fragment; where nothing was opened it stays
+-- the editor went on with another version of the opened fragment; if nothing was opened, it stays
 abbrev pub IsGoneOn : Editor → Editor → Annotated → Path → Type 0
 IsGoneOn old new note cursor =
     ((old.opened ≡ None) × (new ≡ old))
@@ -203,7 +203,7 @@ IsNoSource e place name r =
 
 -- ---- the tests of a tree
 
--- the tests of what a change gives, where `Of` says that this has a property
+-- the tests of what a change gives; `Of` says that this has a property
 abbrev pub tree_tests : Definition → Trial → ((Fragment → Type 0) → Type 0) → Tests
 tree_tests def Opens Of = opening def (IsGoodIn def) Of
 tree_tests def Grows Of = growing def (IsGoodIn def) Of
@@ -257,14 +257,14 @@ IsPlan def e command (Ok m) = IsProposal def e command m
 IsPlan def e command (Err (stops.Refused r)) = IsRefused def (IsGoodIn def) (state_of e) not_asked command r
 IsPlan def e command (Err stops.Memory) = Unit {0}
 
--- The counter went up by no more than the planned change costs; where nothing was planned it stayed.
+-- The counter went up by no more than the planned change costs; if nothing was planned, it stayed.
 abbrev pub Spends : Editor → Result Proposal Stop → ℕ → ℕ → Type 0
 Spends e plan from to =
     (to ≡ from)
     ⊎ ((m : Proposal) × (plan ≡ Ok m) × (held : OpenedTree) × (e.opened ≡ Some held)
     × (to ≤ from + cost_of m.edit (tree_in held.note)))
 
--- where the counter is at the number `so_far`, the planned change may be made within the bound of the command
+-- if the counter is at the number `so_far`, the planned change may be made within the bound of the command
 abbrev pub MaySpend : Definition → Editor → Command → ℕ → ℕ → Result Proposal Stop → Type 0
 MaySpend def e command from so_far plan =
     (to : ℕ) → Spends e plan so_far to → HasTicked def (state_of e) command from to
@@ -276,7 +276,7 @@ pub record IsListed (def : Definition) (node : Fragment) (l : Listed) : Type 0 w
   pub end : end_of node ≡ Some l.unfinished
   pub is_list : IsList node
 
--- the operator with its names and literals; or why there is none, where one of the phylum is wanted
+-- the operator with its names and literals; or why there is none, if one of the phylum is wanted
 abbrev pub IsFreshAnswer : Definition → ℕ → Name → List ℕ → Result Fragment Stop → Type 0
 IsFreshAnswer def p name args (Ok fresh) =
     (o : ℕ) × (leaves : List Leaf) × IsOperator def o name × IsOfPhylum def o p × GivesLeaves def o args leaves

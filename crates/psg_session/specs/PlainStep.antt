@@ -128,13 +128,13 @@ module _ (def : Definition) where
   abbrev pub HasNotOneName : Name → Type 0
   HasNotOneName name = (o p : ℕ) → IsOperator o name → HasOneName def o p → ⊥
 
-  -- where an operator of the wanted phylum is tried at the place, the tree of a trial is too wide
+  -- the tree of a trial of an operator of the wanted phylum at the place is too wide
   abbrev pub IsMenuTooWide : State → Where → Option ℕ → Type 0
   IsMenuTooWide s place k =
       AtNode s place (λ old node. (p : ℕ) × IsWanted k node p
       × HasWideTrial def old.tree (named_path place s.cursor) k p)
 
-  -- where the operator is tried there with a name that occurs in the fragment, it is
+  -- the tree of a trial of the operator there, with a name that occurs in the fragment, is too wide
   abbrev pub IsNamesTooWide : State → Where → Option ℕ → Name → Type 0
   IsNamesTooWide s place k name =
       AtNode s place (λ old node. (o : ℕ) × IsOperator o name
@@ -191,13 +191,13 @@ module _ (def : Definition) where
   abbrev pub OfResult : State → Command → (Fragment → Type 0) → Type 0
   OfResult s command P = (tree : Fragment) × Gives s command tree × P tree
 
--- The tests of a definition's editor, for what counts as good.
+-- The tests of a definition's editor. `IsGood` says which trees are good.
 module _ (def : Definition) (IsGood : Fragment → Type 0) where
   -- The tests of the tree that a command gives. `Of` says that this tree has a property.
   abbrev pub opening : ((Fragment → Type 0) → Type 0) → Tests
   opening Of = test TooWide (Of (IsWide def)) done
 
-  -- where something is taken away, or a list goes on
+  -- if something is taken away, or a list is made unfinished
   abbrev pub loosening : ((Fragment → Type 0) → Type 0) → Tests
   loosening Of = test TooWide (Of (IsWide def)) (test TooHeavy (Of (IsHeavy def)) done)
 
@@ -213,7 +213,7 @@ module _ (def : Definition) (IsGood : Fragment → Type 0) where
   abbrev pub growing : ((Fragment → Type 0) → Type 0) → Tests
   growing Of = test TooDeep (Of IsDeep) (test TooBig (Of IsBig) (closing Of))
 
-  -- Where text is typed, which may be any program. Its brackets may nest too deep while its tree, which has none, does
+  -- If text is typed, which may be any program. Its brackets may nest too deep although its tree, which has none, does
   -- not.
   abbrev pub typing : Type 0 → ((Fragment → Type 0) → Type 0) → Tests
   typing Nested Of = test TooDeep (Nested ⊎ Of IsDeep) (test TooBig (Of IsBig) (loosening Of))

@@ -16,7 +16,7 @@ use Rattle.psg_session.specs.PlainState.{Opened}
 use Rattle.psg_session.specs.Sessions.{IsSession, opened_of}
 
 module _ (def : Definition) where
-  -- the opened fragment is printed so; there is no text where nothing is opened
+  -- this is the text of the opened fragment; if nothing is opened, there is no text
   abbrev pub IsPrinted : Option Opened → Option Printed → Type 0
   IsPrinted opened printed = printed ≡ option_map (λ old. printed_of def old.tree) opened
 

@@ -1,4 +1,4 @@
--- What is answered where bytes of the printed text are replaced.
+-- What is answered when bytes of the printed text are replaced.
 use Rattle.std.specs.Prelude.{Result, Ok, Err, IsUtf8}
 use Rattle.psg_grammar.specs.declared.types.Definition.{Definition}
 use Rattle.psg_unparse.specs.Layout.{text_of}
@@ -16,7 +16,7 @@ module _ (def : Definition) (e : Typing) (old : Opened) where
     pub fits : IsForNode def old.tree change.path change.tree
     pub utf8 : IsUtf8 (text_with def e old)
 
-  -- there is no such tree for the reason of the fault; where the bytes are there, the whole new text is UTF-8
+  -- there is no such tree for the reason of the fault; if the bytes are there, the whole new text is UTF-8
   pub record HasNoChange (fault : TextFault) : Type 0 where
     pub reason : IsTextFault def old.tree e old.kind fault
     pub utf8 : (IsOutside e (text_of def old.tree) → ⊥) → IsUtf8 (text_with def e old)

@@ -1,4 +1,4 @@
--- What is read where bytes of the printed text are replaced.
+-- What is read when bytes of the printed text are replaced.
 use Rattle.std.specs.Prelude.{ℕ, ◌≡◌, ◌<◌, List, Some, IsUtf8}
 use Rattle.psg_grammar.specs.declared.types.Definition.{Definition}
 use Rattle.psg_grammar.specs.Fragments.{Fragment}

@@ -1,4 +1,4 @@
--- What a command is answered, and how that is written.
+-- The reply to a command, and how it is written.
 use Rattle.std.specs.Prelude.{ℕ, List, [], ◌∷◌, ◌++◌, codes, decimal}
 use Rattle.psg_grammar.specs.Marks.{Mark}
 use Rattle.psg_session.specs.declared.refusal.Refusal.{Refusal}

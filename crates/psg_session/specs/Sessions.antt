@@ -37,7 +37,7 @@ module _ (def : Definition) where
     pub formed : WellFormed def (tree_in n) kind
     pub noted : IsNoteOf def (tree_in n) n
 
-  -- the notes are versions of the opened fragment; where nothing is opened there are none
+  -- the notes are versions of the opened fragment; if nothing is opened, there are none
   abbrev pub AreVersions : Option OpenedTree → List Annotated → Type 0
   AreVersions None versions = versions ≡ []
   AreVersions (Some held) versions = IsVersion held.kind held.note × AllByRecursion (IsVersion held.kind) versions

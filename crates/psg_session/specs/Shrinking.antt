@@ -13,7 +13,7 @@ pub record IsNoLarger (old new : Fragment) : Type 0 where
   pub nodes : nodes_of new ≤ nodes_of old
   pub longest : longest_of new ≤ longest_of old
 
--- The new tree is one that such a change may make of the old one: where the change adds nothing, it is no larger. A new
+-- The new tree is one that such a change may make of the old one: if the change adds nothing, it is no larger. A new
 -- fragment is no change of an old one.
 abbrev pub IsSizedBy : Trial → Fragment → Fragment → Type 0
 IsSizedBy Opens old new = ⊥
@@ -22,7 +22,7 @@ IsSizedBy Types old new = Unit {0}
 IsSizedBy Closes old new = IsNoLarger old new
 IsSizedBy Loosens old new = IsNoLarger old new
 
--- The tree passes none of the limits that are not tested where such a change makes it.
+-- The tree passes none of the limits that are not tested when such a change makes it.
 abbrev pub IsSmallFor : Definition → Trial → Fragment → Type 0
 IsSmallFor def Opens f = (IsDeep f → ⊥) × (IsBig f → ⊥) × (IsHeavy def f → IsWide def f)
 IsSmallFor def Grows f = Unit {0}

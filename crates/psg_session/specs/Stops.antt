@@ -1,4 +1,4 @@
--- What a command says where it has no outcome, by what failed below.
+-- What a command says if it has no outcome, by what failed below.
 use Rattle.std.specs.Prelude.{Result, Ok, Err}
 use Rattle.psg_cache.specs.declared.note.NoteFault.{NoteFault}
 use Rattle.psg_cache.specs.declared.note.NoteFault.TheVariants as note_faults

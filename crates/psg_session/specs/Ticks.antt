@@ -1,5 +1,5 @@
--- How many evaluations a command may take, where it makes a tree: those by which it differs from the old one, or those
--- of a new element and of the nodes and list suffixes above it. Typed text counts one for each of its tokens too, and
+-- How many evaluations a command may take if it makes a tree: those by which it differs from the old one, or those of a
+-- new element and of the nodes and list suffixes above it. Typed text counts one for each of its tokens too, and
 -- replaced bytes one for each token of the nodes that are read again.
 use Rattle.std.specs.Prelude.{ℕ, ◌≡◌, ◌≤◌, ◌⊎◌, ◌+◌, List, Option, Some, None, length, ◌*◌, sum_by}
 use Rattle.psg_terms.specs.Names.{Name}

@@ -153,7 +153,8 @@ pub(crate) fn put(
     })
 }
 
-/// Plans a refinement: the operator in place of the placeholder.
+/// Plans a refinement: the operator in place of the placeholder. It is refused with `NothingOpened`, `NoNode`,
+/// `NotHole`, `Unknown`, `OtherPhylum` or `BadArguments`. It walks along the path.
 pub fn refine(
     alloc: Global,
     language: &LanguageParts,
@@ -203,7 +204,8 @@ fn fresh_of(
     Ok(fresh)
 }
 
-/// Plans an insertion: the operator as a new element before the place of the list.
+/// Plans an insertion: the operator as a new element before the place of the list. It is refused as `refine` is, with
+/// `NoPlace` in place of `NotHole`.
 pub fn insert_element(
     alloc: Global,
     language: &LanguageParts,
@@ -254,7 +256,8 @@ pub fn longer(alloc: Global, path: &Path, step: u32) -> Result<Path, AllocError>
     Ok(longer)
 }
 
-/// Plans a cut: a new tree of the node's kind in its place.
+/// Plans a cut: a new tree of the node's kind in its place. It is refused with `NothingOpened` or `NoNode`, and with
+/// `NoPlaceholder` if the kind declares names.
 pub fn cut(
     alloc: Global,
     language: &LanguageParts,
@@ -275,7 +278,8 @@ pub fn cut(
     Ok(made)
 }
 
-/// Plans a removal: the list without the element.
+/// Plans a removal: the list without the element. It is refused with `NothingOpened` or `NoNode`, and with `NoPlace` if
+/// the node is no list or has no such element.
 pub fn remove_element(
     alloc: Global,
     language: &LanguageParts,
@@ -305,7 +309,8 @@ pub fn remove_element(
     })
 }
 
-/// Plans that the list is finished.
+/// Plans that the list is finished. It is refused with `NothingOpened` or `NoNode`, and with `NoPlace` if the node is
+/// no unfinished list.
 pub fn close(
     alloc: Global,
     language: &LanguageParts,
@@ -325,7 +330,8 @@ pub fn close(
     Ok(made)
 }
 
-/// Plans that the list is unfinished again.
+/// Plans that the list is unfinished again. It is refused with `NothingOpened` or `NoNode`, and with `NoPlace` if the
+/// node is no finished list, or is one of a kind that is always finished.
 pub fn reopen(
     alloc: Global,
     language: &LanguageParts,

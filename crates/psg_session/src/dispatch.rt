@@ -31,9 +31,9 @@ use psg_world::Files;
 use std::alloc::Global;
 use std::sync::ledger::Ledger;
 
-/// Finds what a command does to the editor, or why it has no outcome. This is the one place where it is looked at which
-/// command it is: a question is answered, a change is planned and then carried out, a version is found, and a fragment
-/// is saved, kept or fetched. A `keep` writes its file and a `fetch` reads it; no other command asks anything of the
+/// Finds what a command does to the editor, or why it has no outcome. It has the only match over commands in this
+/// crate: a question is answered, a change is planned and then carried out, a version is found, and a fragment is
+/// saved, kept or fetched. A `keep` writes its file and a `fetch` reads it; no other command asks anything of the
 /// files.
 ///
 /// A change evaluates what is new and the nodes above it. `steps` counts evaluations, and the tokens of typed text and

@@ -19,7 +19,7 @@ pub struct Target<'a> {
     pub node: &'a Tree,
 }
 
-/// The path that a command names.
+/// Returns the path that a command names.
 fn path_named<'a>(place: &'a Where, cursor: &'a Path) -> &'a Path
     ensures { result.now ≡ named_path place.now cursor.now }
 {

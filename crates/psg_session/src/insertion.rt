@@ -16,7 +16,7 @@ use psg_terms::Seq;
 use psg_tree::{Part, Shape, Tree};
 use std::alloc::{AllocError, Global};
 
-/// Whether lists of the kind may be unfinished.
+/// Says whether lists of the kind may be unfinished.
 fn may_be_unfinished(definition: &Definition, list: u32) -> bool
     requires { list < length definition.now.lists }
     ensures { result ≡ may_be (slice_get definition.now.lists list) }
@@ -49,7 +49,7 @@ pub fn blank(alloc: Global, definition: &Definition, kind: Kind) -> Result<Tree,
     }
 }
 
-/// The part that a leaf is.
+/// Returns the part that a leaf is.
 fn part_of(leaf: &Leaf) -> Result<Part, AllocError>
     ensures { IfOk result (λ part. (f : Fragment) → with_part f part ≡ with_leaf f (plain_leaf leaf.now)) }
 {

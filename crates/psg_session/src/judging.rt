@@ -41,8 +41,8 @@ fn is_inadmissible(trial: Trial, note: &Note) -> bool
 }
 
 /// Gives the note, where its tree passes the tests of the change; otherwise it is refused by the first test that it
-/// fails. A limit that is not tested there is one that the tree cannot pass, since the change adds nothing. Memory is the
-/// reason only where it ran out for the note.
+/// fails. A limit that is not tested there is one that the tree cannot pass, since the change adds nothing. Memory is
+/// the reason only where it ran out for the note.
 pub fn judged(trial: Trial, noted: Result<Note, NoteFault>) -> Result<Note, Stop>
     ensures judged { (def : Definition) (f : Fragment) → IsNoted def f noted → IsSmallFor def trial f
         → IsJudged def trial f result }

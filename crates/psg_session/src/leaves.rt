@@ -60,7 +60,7 @@ pub fn read_leaves(
     }
 }
 
-/// Whether there was no memory for the tokens, so that the text may have some.
+/// Says whether there was no memory for the tokens, so that the text may have some.
 pub(crate) fn is_memory(fault: LexFault) -> bool
     ensures { IsTrue result ↔ (fault ≡ LexFault.Memory) }
 {
@@ -70,7 +70,7 @@ pub(crate) fn is_memory(fault: LexFault) -> bool
     }
 }
 
-/// The leaf that the token is, if it is one.
+/// Returns the leaf that the token is, if it is one.
 fn leaf_of(token: &Token) -> Result<Option<Leaf>, AllocError>
     ensures some { IfOk result (λ o. IfSome o (λ leaf. plain_leaf_of token.now ≡ Some (plain_leaf leaf))) }
     ensures none { IfOk result (λ o. IfNone o ((leaf : PlainLeaf) → plain_leaf_of token.now ≡ Some leaf → ⊥)) }
@@ -83,7 +83,7 @@ fn leaf_of(token: &Token) -> Result<Option<Leaf>, AllocError>
     }
 }
 
-/// The leaves that the tokens are, if each is one.
+/// Returns the leaves that the tokens are, if each is one.
 fn leaves_of(alloc: Global, tokens: &[Spanned]) -> Result<Option<Vec<Leaf>>, AllocError>
     ensures some { IfOk result (λ o. IfSome o (λ leaves.
         map given tokens.now ≡ map Some (map plain_leaf leaves.items))) }
@@ -100,7 +100,7 @@ fn leaves_of(alloc: Global, tokens: &[Spanned]) -> Result<Option<Vec<Leaf>>, All
     Ok(Some(leaves))
 }
 
-/// Whether the item takes a leaf: a name position, a number or a text.
+/// Says whether the item takes a leaf: a name position, a number or a text.
 pub(crate) fn takes_leaf(item: &Item) -> bool
     ensures { result ≡ has_leaf item.now }
 {
@@ -113,7 +113,7 @@ pub(crate) fn takes_leaf(item: &Item) -> bool
     }
 }
 
-/// Whether the leaf is a name that is no fixed word, where it is a word if it is a name.
+/// Says whether the leaf is a name that is no fixed word, where it is a word if it is a name.
 fn is_name_leaf(language: &LanguageParts, leaf: &Leaf) -> bool
     requires language { IsLanguage language.now }
     requires word { HasWord (plain_leaf leaf.now) }
@@ -125,7 +125,7 @@ fn is_name_leaf(language: &LanguageParts, leaf: &Leaf) -> bool
     }
 }
 
-/// Whether the leaf is a number.
+/// Says whether the leaf is a number.
 fn is_number_leaf(leaf: &Leaf) -> bool
     ensures { IsTrue result ↔ IsNumberLeaf (plain_leaf leaf.now) }
 {
@@ -138,7 +138,7 @@ fn is_number_leaf(leaf: &Leaf) -> bool
     }
 }
 
-/// Whether the leaf is a text.
+/// Says whether the leaf is a text.
 fn is_text_leaf(leaf: &Leaf) -> bool
     ensures { IsTrue result ↔ IsTextLeaf (plain_leaf leaf.now) }
 {
@@ -151,7 +151,7 @@ fn is_text_leaf(leaf: &Leaf) -> bool
     }
 }
 
-/// Whether the leaf is one for the item.
+/// Says whether the leaf is one for the item.
 fn suits(language: &LanguageParts, item: &Item, leaf: &Leaf) -> bool
     requires language { IsLanguage language.now }
     requires word { HasWord (plain_leaf leaf.now) }
@@ -188,7 +188,7 @@ fn next_leaf(language: &LanguageParts, leaves: &[Leaf], at: usize, item: &Item) 
     }
 }
 
-/// Whether the leaves are one for each name position, number and text of the items, in order and of their kinds.
+/// Says whether the leaves are one for each name position, number and text of the items, in order and of their kinds.
 /// The names among them are words.
 fn are_leaves(language: &LanguageParts, items: &[Item], leaves: &[Leaf]) -> bool
     requires language { IsLanguage language.now }

@@ -165,7 +165,9 @@ fn one_line(alloc: Global, names: &[Txt]) -> Result<Reply, AllocError>
 }
 
 /// Answers which operators may be put at the place, in the definition's order: those with which, under new names and
-/// some literals, the fragment has a legal completion. Each is tried by the nodes above the place, or fewer.
+/// some literals, the fragment has a legal completion. Each operator of the phylum is tried: at most the nodes above
+/// the place are evaluated for it. It is refused with `NothingOpened`, `NoNode`, `NotHole` or `NoPlace`, and with
+/// `TooWide` if a trial is too large.
 #[tactic(auto, using(crate::proofs::Ticking::quiet))]
 pub fn menu<L: Ledger>(
     alloc: Global,
@@ -223,8 +225,8 @@ fn naming(definition: &Definition, phylum: u32, name: &str) -> Result<u32, Refus
 }
 
 /// Answers with which names of the fragment the operator may be put at the place, in the order of bytes: those with
-/// which, under some literals, the fragment has a legal completion. Each is tried by the nodes above the place, or
-/// fewer.
+/// which, under some literals, the fragment has a legal completion. Each name is tried: at most the nodes above the
+/// place are evaluated for it. It is refused as `menu` is, and with `Unknown`, `OtherPhylum` or `BadArguments`.
 #[tactic(auto, using(crate::proofs::Ticking::quiet))]
 pub fn suggest<L: Ledger>(
     alloc: Global,

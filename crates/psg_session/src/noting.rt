@@ -18,7 +18,8 @@ use psg_tree::{Tree, TreeFault};
 use std::alloc::{AllocError, Global};
 use std::sync::ledger::Ledger;
 
-/// Gives the note of a tree. It evaluates the whole tree, and `steps` counts the evaluations.
+/// Gives the note of a tree. It evaluates the whole tree, and `steps` counts the evaluations. An error says which limit
+/// the tree passes, or that memory ran out.
 pub fn note_of<L: Ledger>(
     alloc: Global,
     language: &LanguageParts,

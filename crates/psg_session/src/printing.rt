@@ -34,7 +34,8 @@ use psg_tree::{Shape, Tree};
 use psg_unparse::{Printed, Span, unparse};
 use std::alloc::{AllocError, Global};
 
-/// Gives the lines of the printed text of the opened fragment, and its mark. It evaluates nothing.
+/// Gives the lines of the printed text of the opened fragment, and its mark. It evaluates nothing, and is refused with
+/// `NothingOpened`. It prints the whole text if that is not kept.
 pub fn show(
     alloc: Global,
     language: &LanguageParts,
@@ -59,7 +60,8 @@ pub fn show(
     Ok(Outcome::Stays(Reply::Shown(text, mark)))
 }
 
-/// Gives the lines that a window has of the printed text of the opened fragment. It evaluates nothing.
+/// Gives the lines that a window has of the printed text of the opened fragment. It evaluates nothing, and is refused
+/// with `NothingOpened`. It prints the whole text if that is not kept.
 pub fn screen(
     alloc: Global,
     language: &LanguageParts,
@@ -141,7 +143,7 @@ fn span_at<'a>(spans: &'a [Span], steps: &[u32]) -> Option<&'a Span>
     None
 }
 
-/// Whether the steps are the same.
+/// Says whether the steps are the same.
 fn are_same(steps: &[u32], others: &[u32]) -> bool
     ensures { Decides result (steps.now ≡ others.now) }
 {
@@ -220,7 +222,7 @@ fn what_of<'a>(definition: &'a Definition, node: &Tree) -> &'a str
     }
 }
 
-/// The operator's name, empty where the definition has no operator of the number.
+/// Returns the operator's name, empty where the definition has no operator of the number.
 fn operator_name(definition: &Definition, op: u32) -> &str
     ensures { result.now ≡ operator_name_of definition.now op }
 {

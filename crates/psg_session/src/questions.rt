@@ -25,7 +25,8 @@ use psg_specimen::LanguageParts;
 use psg_terms::{Signature, Term, Txt, term_text};
 use std::alloc::{AllocError, Global};
 
-/// Answers with the keys that the opened fragment uses and its outermost region does not declare. It evaluates nothing.
+/// Answers with the keys that the opened fragment uses and its outermost region does not declare. It evaluates nothing,
+/// and is refused with `NothingOpened`.
 pub fn free(alloc: Global, language: &LanguageParts, editor: &Editor) -> Result<Outcome, Stop>
     requires language { IsLanguage language.now }
     requires editor { IsEditor language.now.definition editor.now }
@@ -44,7 +45,7 @@ pub fn free(alloc: Global, language: &LanguageParts, editor: &Editor) -> Result<
     Ok(Outcome::Stays(Reply::Answered(lines)))
 }
 
-/// The keys of a header that are not declared, with a space between two, or `none`.
+/// Returns the keys of a header that are not declared, with a space between two, or `none`.
 fn free_line(
     alloc: Global,
     definition: &Definition,
@@ -83,7 +84,7 @@ fn push_space(text: &mut String, spaces: &[Space], space: u32) -> Result<(), All
     }
 }
 
-/// The keys of the columns that are not declared.
+/// Returns the keys of the columns that are not declared.
 fn undeclared(
     alloc: Global,
     definition: &Definition,
@@ -100,7 +101,7 @@ fn undeclared(
     Ok(free)
 }
 
-/// The keys of the columns.
+/// Returns the keys of the columns.
 fn labels(alloc: Global, definition: &Definition, names: &[NameCol]) -> Result<Vec<Txt>, AllocError>
     ensures { IfOk result (λ labels. labels.items ≡ map (key_text definition.now) (keys names.now)) }
 {
@@ -111,7 +112,7 @@ fn labels(alloc: Global, definition: &Definition, names: &[NameCol]) -> Result<V
     Ok(labels)
 }
 
-/// The names with a space between two, or `none`.
+/// Returns the names with a space between two, or `none`.
 pub(crate) fn names_line(alloc: Global, names: &[Txt]) -> Result<String, AllocError>
     ensures { IfOk result (λ text. string_bytes text ≡ names_line_of names.now) }
 {
@@ -128,7 +129,7 @@ pub(crate) fn names_line(alloc: Global, names: &[Txt]) -> Result<String, AllocEr
 }
 
 /// Answers with the rows of the relation of the node at the place, each on a line: the value, and the entity of each
-/// key. It evaluates nothing.
+/// key. It evaluates nothing, and is refused with `NothingOpened` or `NoNode`.
 pub fn own(
     alloc: Global,
     language: &LanguageParts,
@@ -148,7 +149,7 @@ pub fn own(
     Ok(Outcome::Stays(Reply::Answered(lines)))
 }
 
-/// A line for each row of the summary, or `none`.
+/// Returns a line for each row of the summary, or `none`.
 fn rows_lines(
     alloc: Global,
     definition: &Definition,

@@ -23,7 +23,7 @@ use psg_terms::{Signature, Steps, Term, term_text};
 use std::alloc::{AllocError, Global};
 use std::sync::ledger::Ledger;
 
-/// The term as the line of a row without names.
+/// Returns the term as the line of a row without names.
 fn term_line(alloc: Global, sig: &Signature, term: &Term) -> Result<String, AllocError>
     requires { (s : ℕ) × HasSort sig.now term.now s }
     ensures { IfOk result (λ text. string_bytes text ≡ row_line_of sig.now [] (term.now ∷ [])) }
@@ -32,7 +32,7 @@ fn term_line(alloc: Global, sig: &Signature, term: &Term) -> Result<String, Allo
     Ok(text)
 }
 
-/// The terms, each on a line, or `none`.
+/// Returns the terms, each on a line, or `none`.
 fn terms_lines(alloc: Global, sig: &Signature, terms: &[Term]) -> Result<Vec<String>, AllocError>
     requires { (t : Plain) → IsIn t terms.now → (s : ℕ) × HasSort sig.now t s }
     ensures { IfOk result (λ lines. map string_bytes lines.items ≡ rows_lines_of sig.now [] (rows_of terms.now)) }
@@ -51,7 +51,8 @@ fn terms_lines(alloc: Global, sig: &Signature, terms: &[Term]) -> Result<Vec<Str
 }
 
 /// Answers with the values that the node at the place may have in the completions of the fragment, each on a line. It
-/// evaluates the nodes above it once more.
+/// evaluates the nodes above it once more. It is refused with `NothingOpened` or `NoNode`, and with `TooWide` if a step
+/// is too large with that value as one more column.
 #[tactic(auto, using(crate::proofs::Ticking::quiet))]
 pub fn relation<L: Ledger>(
     alloc: Global,

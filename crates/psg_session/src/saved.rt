@@ -121,7 +121,8 @@ pub fn save(
 ) -> Result<Outcome, Stop>
     requires language { IsLanguage language.now }
     requires editor { IsEditor language.now.definition editor.now }
-    ensures { IfFound result (IsOutcome language.now.definition editor.now not_asked (commands.Save name.now place.now)) }
+    ensures { IfFound result (IsOutcome language.now.definition editor.now not_asked
+        (commands.Save name.now place.now)) }
 {
     let found = find(editor, place)?;
     let shelf = editor.saved.as_slice();

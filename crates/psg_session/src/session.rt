@@ -52,7 +52,7 @@ pub struct Session {
     printed: Option<Printed>,
 }
 
-// written out, so that it is proved once, and not anew in each crate where such a value is let go
+// written out, so that it is proved once, and not again in each crate where such a value is let go
 impl Drop for Session {
     fn drop(self) {
         let Session { parts, printed } = self;

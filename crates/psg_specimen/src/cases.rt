@@ -106,7 +106,8 @@ pub(crate) fn is_over(
     }
 }
 
-/// The arguments are gone through from the last one, and the variables that were met are kept in a set.
+/// Says whether the terms are different variables, each of its sort. It walks from the last one, and keeps those met in
+/// a set.
 fn are_different(
     alloc: Global,
     sig: &Signature,

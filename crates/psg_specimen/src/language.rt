@@ -36,7 +36,7 @@ pub struct Language {
     parts: LanguageParts,
 }
 
-// written out, so that it is proved once, and not anew in each crate where such a value is let go
+// written out, so that it is proved once, and not again in each crate where such a value is let go
 impl Drop for Language {
     fn drop(self) {
         let Language { parts } = self;

@@ -161,7 +161,7 @@ fn no_declare_text(
     Ok(text)
 }
 
-/// The space is written in version 2 alone, where spaces have names.
+/// Adds the name of the space in version 2; in version 1 spaces have no names, and nothing is added.
 fn add_space(text: &mut String, definition: &Definition, space: u32) -> Result<(), AllocError>
     requires { space < length definition.now.spaces }
     ensures { OnOk result ((ws : List (List ℕ)) → string_bytes text.old ≡ line ws

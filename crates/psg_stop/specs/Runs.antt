@@ -2,7 +2,7 @@
 use Rattle.std.specs.Prelude.{ℕ, zero, suc, [], ◌∷◌}
 use Rattle.psg_terms.specs.Names.{Name}
 
--- so many letters a
+-- that many letters a
 abbrev pub run : ℕ → Name
 run zero = []
 run (suc n) = 97 ∷ run n

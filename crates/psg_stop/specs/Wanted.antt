@@ -1,4 +1,4 @@
--- What may come after tokens that begin a tree.
+-- What may follow tokens that begin a tree.
 use Rattle.std.specs.Prelude.{ℕ, ◌≡◌, ◌↔◌, ◌⊎◌, List, [], ◌∷◌, ◌++◌, map}
 use Rattle.psg_terms.specs.Names.{Name}
 use Rattle.psg_terms.specs.Relations.{IsIn}
@@ -49,7 +49,7 @@ other_terminals = open_bracket ∷ close_bracket ∷ a_name ∷ a_number ∷ a_t
 abbrev pub all_terminals : Definition → List Terminal
 all_terminals def = (other_terminals ++ map word_terminal (fixed_words def)) ++ map hole_terminal def.phyla
 
--- a kind of token was asked for: it is told exactly where it goes on
+-- a kind of token was asked for: it is reported exactly where it goes on
 abbrev pub IsAsked : Definition → Kind → ℕ → List Token → Terminal → List Terminal → List Terminal → Type 0
 IsAsked def kind level ts terminal old new =
     (GoesWith def kind level ts terminal × (new ≡ old ++ terminal ∷ []))

@@ -28,12 +28,12 @@ pub struct Stop {
 }
 
 /// Returns how many of the first tokens may begin a tree of the goal's kind and level, as `psg_parse::reach` does, and
-/// what may come after them: each kind of token with which they begin a tree, and whether they are one. It serves to
-/// say what is wrong where `psg_parse::parse` returns `NoTree`.
+/// what may follow them: each kind of token with which they begin a tree, and whether they are one. It serves to say
+/// what is wrong where `psg_parse::parse` returns `NoTree`.
 ///
-/// What may come after them is exact where all that the definition has can be ended and the kind has a tree of the
-/// level. Whether they are a tree is exact for every definition. It fails where memory runs out. It reads the tokens in
-/// front of the stop once for each fixed word and each phylum of the definition, and eight times more.
+/// What may follow them is exact where all that the definition has can be ended and the kind has a tree of the level.
+/// Whether they are a tree is exact for every definition. It fails where memory runs out. It reads the tokens in front
+/// of the stop once for each fixed word and each phylum of the definition, and eight times more.
 pub fn find_stop(
     alloc: Global,
     definition: &Definition,
@@ -64,7 +64,7 @@ pub fn find_stop(
     })
 }
 
-/// Returns what may come after the tokens.
+/// Returns what may follow the tokens.
 fn wanted_after(
     alloc: Global,
     definition: &Definition,

@@ -1,5 +1,6 @@
 -- A table from the number of a variable to its place.
-use Rattle.std.specs.Prelude.{ℕ, ◌≡◌, ◌<◌, ◌==◌, ◌⊎◌, zero, suc, cond, List, [], ◌∷◌, length, get_or, slice_get, Some, set}
+use Rattle.std.specs.Prelude.{ℕ, ◌≡◌, ◌<◌, ◌==◌, ◌⊎◌, zero, suc, cond, List, [], ◌∷◌, length, get_or, slice_get, Some}
+use Rattle.std.specs.Prelude.{set}
 use Rattle.psg_terms.specs.declared.canonical.Key.{Key}
 
 -- one more, unless it is 0

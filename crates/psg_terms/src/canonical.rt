@@ -113,8 +113,8 @@ fn renumber_all(
     Ok(copies)
 }
 
-/// Returns the number of a place. Exactly where it does not fit into 32 bits, there are too many variables, and the call
-/// fails as if out of memory.
+/// Returns the number of a place. Exactly where it does not fit into 32 bits, there are too many variables, and the
+/// call fails as if out of memory.
 pub fn number_of(base: usize, place: usize) -> Result<u32, AllocError>
     ensures number { IfOk result (λ n. n ≡ base + place + 1) }
     ensures fits { base + place + 1 < 2 ^ 32 → IsOk result }

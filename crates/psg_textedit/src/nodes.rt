@@ -19,8 +19,8 @@ use psg_unparse::{Printed, Span};
 use std::alloc::{AllocError, Global};
 use std::sync::ledger::Ledger;
 
-/// A printed tree of a kind, what is typed into it, and the lines on which that is: with the new bytes they have so
-/// many bytes, and these tokens.
+/// A printed tree of a kind, what is typed into it, and the lines on which that is: with the new bytes the lines have
+/// the given number of bytes, and the given tokens.
 #[derive(Clone, Copy)]
 pub(crate) struct Job<'a> {
     pub(crate) reader: &'a Reader<'a>,

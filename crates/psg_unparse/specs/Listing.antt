@@ -1,4 +1,5 @@
--- That the nodes of a tree are listed, each once and in the order of their paths, and that its row is cut at each of them.
+-- That the nodes of a tree are listed, each once and in the order of their paths, and that its row is cut at each of
+-- them.
 use Rattle.std.specs.Prelude.{ℕ, ◌≡◌, ◌<◌, ◌⊎◌, ◌++◌, List, [], ◌∷◌, Some, slice_get}
 use Rattle.std.specs.List.{AllByRecursion}
 use Rattle.psg_grammar.specs.declared.types.Definition.{Definition}

@@ -1,4 +1,4 @@
--- Rows whose text is the same after whatever row, but for the gap in front.
+-- Rows whose text is the same after whatever row, except the gap in front.
 use Rattle.std.specs.Prelude.{ℕ, ◌≡◌, ◌&&◌, Bool, true, false, List, [], ◌∷◌, Option, Some, None, chars}
 use Rattle.std.specs.Prelude.{slice_get}
 use Rattle.std.specs.List.{list_any}

@@ -31,7 +31,8 @@ IsOneLine text = All (λ b. b ≡ 10 → ⊥) text
 
 -- no span begins or ends inside a character
 abbrev pub CutsNone : Printed → Type 0
-CutsNone p = (k : ℕ) (s : Span) → slice_get p.spans k ≡ Some s → IsCharBoundary p.text s.start × IsCharBoundary p.text s.end
+CutsNone p = (k : ℕ) (s : Span) → slice_get p.spans k ≡ Some s
+    → IsCharBoundary p.text s.start × IsCharBoundary p.text s.end
 
 -- the steps are the first ones of the path
 abbrev pub leads_along : Path → Path → Bool
@@ -98,7 +99,7 @@ module _ (def : Definition) where
       (f : Fragment) (kind : Kind) → WellFormed def f kind → (path : Path) (old new : Fragment)
       → node_at f path ≡ Some old → FitsInPlace old new → IsSplicedAt f path old new
 
-  -- this is printed of the new node by itself, which fits in the old one's place, and of the old one so many spans
+  -- this is printed of the new node by itself, which fits in the old one's place, and of the old one that many spans
   pub record IsFitting (old new : Fragment) (count : ℕ) (printed : Printed) : Type 0 where
     pub fits : FitsInPlace old new
     pub count_is : count ≡ length (printed_of def old).spans

@@ -5,8 +5,8 @@
 //! first a row of tokens and marks, and the gap in front of a token depends on the row before it alone.
 //!
 //! `specs/Rows` says what row of tokens and marks a tree is written as, `specs/Layout` what text a row has, and
-//! `specs/Back` what it means that the text reads back. `specs/Spots` and `specs/Nodes` say what it means that each node
-//! of the tree does, `specs/Spaced` that each text with other gaps between the same tokens does. The calls of
+//! `specs/Back` what it means that the text reads back. `specs/Spots` and `specs/Nodes` say what it means that each
+//! node of the tree does, `specs/Spaced` that each text with other gaps between the same tokens does. The calls of
 //! `reading_back` do nothing: their contracts are the laws.
 #![tactic(auto)]
 

@@ -437,8 +437,8 @@ fn print_whole(alloc: Global, definition: &Definition, tree: &Tree) -> Result<Pr
     Ok(printer)
 }
 
-/// Prints a tree by itself, if it is written the same in all places but for the gap in front of it and after it: its
-/// row begins and ends with a token, and no mark in it puts a line or changes a level. Its cost is that of `unparse`.
+/// Prints a tree by itself, if it is written the same in all places except the gap in front of it and after it: its row
+/// begins and ends with a token, and no mark in it puts a line or changes a level. Its cost is that of `unparse`.
 pub(crate) fn print_plain(
     alloc: Global,
     definition: &Definition,

@@ -30,9 +30,9 @@ pub fn nodes_read_back(_definition: &Definition)
     ensures { (f : Fragment) → NodesReadBackIfPrintable _definition.now f }
 {}
 
-/// States of each such tree that its text reads back as it however its tokens are spaced: the gaps are of spaces and line
-/// feeds, and a gap is empty only where the tokens beside it do not run together. Such a text has the tokens of the text
-/// that is printed of the tree. The call has no cost.
+/// States of each such tree that its text reads back as it however its tokens are spaced: the gaps are of spaces and
+/// line feeds, and a gap is empty only where the tokens beside it do not run together. Such a text has the tokens of
+/// the text that is printed of the tree. The call has no cost.
 pub fn spaced_reads_back(_definition: &Definition)
     requires sound { IsSound _definition.now }
     requires words { AllByRecursion IsFixedWord (fixed_words _definition.now) }

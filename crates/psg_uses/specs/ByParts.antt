@@ -1,5 +1,6 @@
 -- What is said of trees, said of the parts of an operator and of the elements of a list.
-use Rattle.std.specs.Prelude.{ℕ, suc, ◌==◌, ◌&&◌, not, Bool, false, cond, List, [], ◌∷◌, ◌++◌, Option, Some, None, Vec, slice_get}
+use Rattle.std.specs.Prelude.{ℕ, suc, ◌==◌, ◌&&◌, not, Bool, false, cond, List, [], ◌∷◌, ◌++◌, Option, Some, None, Vec}
+use Rattle.std.specs.Prelude.{slice_get}
 use Rattle.std.specs.List.{list_any}
 use Rattle.std.specs.declared.alloc.Global.{Global}
 use Rattle.psg_grammar.specs.declared.types.Definition.{Definition}
@@ -28,7 +29,7 @@ module _ (how : Gathering) where
   abbrev pub child_names : Path → ℕ → Fragment → List Written
   child_names path child t = cond (is_passed t) [] (names_by (below path child) 0 t)
 
-  -- of a part of the node at the path, which has so many names and children before it
+  -- of a part of the node at the path, which has that many names and children before it
   abbrev pub part_names : Option NameItem → Path → ℕ → ℕ → Part → List Written
   part_names item path names children (parts.Sub t) = child_names path children t
   part_names item path names children (parts.Name x) = wanted_name how.declared item path names x

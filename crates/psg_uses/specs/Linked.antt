@@ -1,5 +1,6 @@
 -- The regions around a name, as they are kept while names are gone through in the order of the text.
-use Rattle.std.specs.Prelude.{ℕ, zero, suc, ◌≡◌, ◌≤◌, ◌==◌, ◌||◌, ◌&&◌, not, Bool, true, false, cond, List, [], ◌∷◌, ◌++◌, length, take, Option, Some, None}
+use Rattle.std.specs.Prelude.{ℕ, zero, suc, ◌≡◌, ◌≤◌, ◌==◌, ◌||◌, ◌&&◌, not, Bool, true, false, cond, List, [], ◌∷◌}
+use Rattle.std.specs.Prelude.{◌++◌, length, take, Option, Some, None}
 use Rattle.std.specs.List.{list_any}
 use Rattle.psg_grammar.specs.declared.types.Definition.{Definition}
 use Rattle.psg_grammar.specs.Fragments.{Fragment}
@@ -23,7 +24,7 @@ region_by def f q =
 abbrev pub regions_at : Definition → Fragment → Path → List Region
 regions_at def f q = cond (begins_region def f q) (region_by def f q ∷ []) []
 
--- those that begin at the first so many nodes on the way, the outermost first
+-- those that begin at that many first nodes on the way, the outermost first
 abbrev pub regions_upto : Definition → Fragment → Path → ℕ → List Region
 regions_upto def f p zero = []
 regions_upto def f p (suc n) = regions_upto def f p n ++ regions_at def f (take n p)

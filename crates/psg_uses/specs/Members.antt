@@ -16,8 +16,8 @@ member_path m = below m.list m.number
 abbrev pub is_declaring : Definition → Fragment → Bool
 is_declaring def f = declares_by def (operator_of def f)
 
--- The elements of the fixed lists of the operator at the path, and of those of their elements that declare, at any depth
--- of fixed lists. list_members has those of a fixed list, the first element of which has the number k.
+-- The elements of the fixed lists of the operator at the path, and of those of their elements that declare, at any
+-- depth of fixed lists. list_members has those of a fixed list, the first element of which has the number k.
 module _ (def : Definition) where
   abbrev mutual
     pub fixed_members : Path → Fragment → List Member

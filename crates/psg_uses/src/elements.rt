@@ -19,6 +19,7 @@ use std::alloc::{AllocError, Global};
 pub struct Member {
     /// The path of the list.
     pub list: Path,
+    /// The number of the element, from 0.
     pub number: u32,
 }
 
@@ -168,7 +169,8 @@ fn add_parts(
 ) -> Result<(), AllocError>
     requires known { IsKnown known }
     ensures { OnOk result (found.new.items
-        ≡ found.old.items ++ members.fixed_members known.entry.definition.now path.now (with_parts (operator 0) parts.now)) }
+        ≡ found.old.items ++ members.fixed_members known.entry.definition.now path.now
+        (with_parts (operator 0) parts.now)) }
 {
     let mut children = 0;
     for place in 0..parts.len() {
@@ -181,8 +183,8 @@ fn add_parts(
     Ok(())
 }
 
-/// Adds the elements of the fixed lists of the operator at the path, and of those of its elements that declare; none where
-/// the tree is no operator.
+/// Adds the elements of the fixed lists of the operator at the path, and of those of its elements that declare; none
+/// where the tree is no operator.
 #[cycle(members)]
 pub fn add_members(
     alloc: Global,

@@ -1,12 +1,14 @@
 //! The names that nothing declares.
-ghost use Rattle.std.specs.Prelude.{◌≡◌, ◌≤◌, ◌+◌, ◌++◌, ◌||◌, ◌∷◌, [], IfOk, OnOk, Some, cond, false, length, take, true};
+ghost use Rattle.std.specs.Prelude.{◌≡◌, ◌≤◌, ◌+◌, ◌++◌, ◌||◌, ◌∷◌, [], IfOk, OnOk, Some, cond, false, length, take};
+ghost use Rattle.std.specs.Prelude.{true};
 ghost use Rattle.psg_grammar.specs.declared.types.Definition.{Definition as PlainDefinition};
 ghost use Rattle.psg_grammar.specs.Fragments.{Fragment};
 ghost use Rattle.psg_grammar.specs.Paths.{node_at};
 ghost use Rattle.psg_uses.specs.Free as free_names;
 ghost use Rattle.psg_known.specs.Knowns.{IsKnown};
 ghost use Rattle.psg_uses.specs.Linked as linked;
-ghost use Rattle.psg_uses.specs.Linked.{IsOnWay, open_below, region_by, regions_around, regions_at, regions_of, regions_upto};
+ghost use Rattle.psg_uses.specs.Linked.{IsOnWay, open_below, region_by, regions_around, regions_at, regions_of};
+ghost use Rattle.psg_uses.specs.Linked.{regions_upto};
 ghost use Rattle.psg_uses.specs.Naming as naming;
 ghost use Rattle.psg_uses.specs.Regions.{begins_region, begins_with};
 
@@ -30,7 +32,9 @@ struct Region {
 /// What names are linked in.
 #[derive(Clone, Copy)]
 pub struct Linking<'a> {
+    /// The definition.
     pub known: Known<'a>,
+    /// The program.
     pub tree: &'a Tree,
 }
 
@@ -91,7 +95,7 @@ fn begins(definition: &Definition, path: &Path, node: &Tree) -> bool
     begins_at(definition, path.steps(), node)
 }
 
-/// Returns the region that begins after so many steps of the path, if one does.
+/// Returns the region that begins after that many steps of the path, if one does.
 fn region_of_step(
     alloc: Global,
     linking: Linking,
@@ -128,7 +132,7 @@ fn push_region(regions: &mut Vec<Region>, region: Option<Region>) -> Result<(), 
     }
 }
 
-/// Adds the regions around the node at the path that begin after so many steps of it, or later.
+/// Adds the regions around the node at the path that begin after that many steps of it, or later.
 fn enter(
     alloc: Global,
     linking: Linking,
@@ -236,14 +240,14 @@ fn used_names(alloc: Global, linking: Linking) -> Result<Vec<Written>, AllocErro
     Ok(used)
 }
 
-/// Says whether the name, which the regions are around, is declared, or was told.
+/// Says whether the name, which the regions are around, is declared, or was reported.
 fn is_told(regions: &[Region], free: &[Written], name: &Written) -> bool
     ensures { result ≡ (linked.is_linked_in regions.now name.now || free_names.has_key free.now name.now) }
 {
     is_linked(regions, name) || has_key(free, name)
 }
 
-/// Adds the name, unless it is declared or was told.
+/// Adds the name, unless it is declared or was reported.
 fn push_free(free: &mut Vec<Written>, told: bool, name: Written) -> Result<(), AllocError>
     ensures { OnOk result (free.new.items ≡ free.old.items ++ cond told [] (name ∷ [])) }
 {

@@ -21,16 +21,22 @@ use std::alloc::{AllocError, Global};
 /// A name of a node, by its number among the names of the node.
 #[derive(Drop)]
 pub struct Written {
+    /// The path of the node.
     pub path: Path,
+    /// The number of the name among the names of the node, from 0.
     pub number: usize,
+    /// The number of the space.
     pub space: u32,
+    /// The name itself.
     pub name: Txt,
 }
 
 /// A name, and whether it is declared where it is.
 #[derive(Drop)]
 pub struct Named {
+    /// The name, and where it is.
     pub name: Written,
+    /// Whether the name is declared there.
     pub declares: bool,
 }
 
@@ -53,7 +59,9 @@ impl Written {
 /// What an item says of a name: the space, and whether the name is declared.
 #[derive(Clone, Copy)]
 pub struct NameItem {
+    /// Whether the name is declared there.
     pub declares: bool,
+    /// The number of the space.
     pub space: u32,
 }
 
@@ -103,6 +111,7 @@ pub fn item_of(definition: &Definition, op: u32, number: usize) -> Option<NameIt
 /// Which names are gathered.
 #[derive(Clone, Copy)]
 pub struct Gathering<'a> {
+    /// The definition.
     pub definition: &'a Definition,
     /// Those that are declared, or those that are used.
     pub declared: bool,
@@ -191,7 +200,7 @@ fn gather_child(
     Ok(())
 }
 
-/// Adds the names of the part of the node at the path, which has so many names and children before it.
+/// Adds the names of the part of the node at the path, which has that many names and children before it.
 #[cycle(names)]
 fn gather_part(
     alloc: Global,
@@ -388,7 +397,8 @@ pub fn name_at(
     path: &Path,
     number: usize,
 ) -> Result<Option<Named>, AllocError>
-    ensures { IfOk result (λ found. found ≡ naming.nth_name definition.now path.now number (node_at tree.now path.now)) }
+    ensures { IfOk result (λ found. found ≡ naming.nth_name definition.now path.now number
+        (node_at tree.now path.now)) }
 {
     let Some(node) = at(tree, path) else {
         return Ok(None);

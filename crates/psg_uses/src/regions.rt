@@ -99,8 +99,8 @@ fn other_of(
     Ok(found)
 }
 
-/// Returns the other declaration of the name in the innermost region around it that has one, also past a region that may
-/// still declare it. It walks over the regions around.
+/// Returns the other declaration of the name in the innermost region around it that has one, also past a region that
+/// may still declare it. It walks over the regions around.
 pub fn declaration_of(
     alloc: Global,
     definition: &Definition,
@@ -148,8 +148,8 @@ fn begins_region(
     }
 }
 
-/// Returns how many steps of the path lead to the region around the node at its end. It walks along the path for each of
-/// its steps.
+/// Returns how many steps of the path lead to the region around the node at its end. It walks along the path for each
+/// of its steps.
 pub fn region_of(
     alloc: Global,
     definition: &Definition,
@@ -170,8 +170,8 @@ pub fn region_of(
     Ok(left)
 }
 
-/// Returns the other declaration of the name, which is declared itself, in its own region, if there is one. It walks over
-/// that region.
+/// Returns the other declaration of the name, which is declared itself, in its own region, if there is one. It walks
+/// over that region.
 pub fn declared_again(
     alloc: Global,
     definition: &Definition,

@@ -1,5 +1,6 @@
 -- The trees that a message of a blamed place speaks of, and what is wanted there.
-use Rattle.std.specs.Prelude.{ℕ, suc, ◌≡◌, ◌⊎◌, ◌==◌, Bool, true, false, List, [], ◌∷◌, ◌++◌, length, Option, Some, None, slice_get}
+use Rattle.std.specs.Prelude.{ℕ, suc, ◌≡◌, ◌⊎◌, ◌==◌, Bool, true, false, List, [], ◌∷◌, ◌++◌, length, Option, Some}
+use Rattle.std.specs.Prelude.{None, slice_get}
 use Rattle.psg_terms.specs.Names.{is_among}
 use Rattle.psg_terms.specs.Relations.{IsRelation}
 use Rattle.psg_terms.specs.Terms.{Term}
@@ -28,8 +29,8 @@ IsTooMuch def f = IsDeep f ⊎ (IsBig f ⊎ (IsWide def f ⊎ IsHeavy def f))
 abbrev pub IsGoodTree : Definition → Fragment → Type 0
 IsGoodTree def f = IsOpen def f × (IsTooMuch def f → ⊥)
 
--- The values of the node at the path in completions of the tree, as most general terms in the order of their texts. Where
--- the tree passes a limit none are told.
+-- The values of the node at the path in completions of the tree, as most general terms in the order of their texts.
+-- Where the tree passes a limit none are reported.
 pub data AreValues (def : Definition) (f : Fragment) (path : Path) : List Term → Type 0 where
   values : (terms : List Term) → (IsTooMuch def f → ⊥) → (IsWideAt def f path → ⊥)
       → IsShownRelation def f path (rows_of terms) → AreValues def f path terms
@@ -44,7 +45,8 @@ abbrev pub IsListed : Definition → Fragment → Type 0
 IsListed def f = IsOpen def f ⊎ IsWide def f
 
 -- the entity of the key outside, in one way to choose rows
-pub record IsEntityOf (def : Definition) (f : Fragment) (key : Key) (choice : Choice f) (columns : List Term) : Type 0 where
+pub record IsEntityOf (def : Definition) (f : Fragment) (key : Key) (choice : Choice f)
+    (columns : List Term) : Type 0 where
   pub distinct : IsDistinct def f
   pub outside : Entities
   pub entities : AreEntities def outside
@@ -52,9 +54,9 @@ pub record IsEntityOf (def : Definition) (f : Fragment) (key : Key) (choice : Ch
   pub judged : Judged def outside f choice value []
   pub columns_are : columns ≡ outside key ∷ []
 
--- The entities of the key where the relation of the tree has a column for it, as most general terms in the order of their
--- texts. None are told where it has none: the tree does not use the key, or an unfinished list may still declare it. None
--- are told either where the tree passes a limit.
+-- The entities of the key where the relation of the tree has a column for it, as most general terms in the order of
+-- their texts. None are reported where it has none: the tree does not use the key, or an unfinished list may still
+-- declare it. None are reported either where the tree passes a limit.
 pub data AreKeyValues (def : Definition) (f : Fragment) (key : Key) : List Term → Type 0 where
   told : (terms : List Term) (sorts : List ℕ) → (IsTooMuch def f → ⊥) → is_among (names_of def f) key ≡ true
       → IsRelation def.signature sorts (IsEntityOf def f key) (rows_of terms) → AreKeyValues def f key terms

@@ -10,7 +10,7 @@ use Rattle.psg_wanted.specs.Fronts.{IsListed, list_of}
 abbrev pub IsListedAt : Definition → Fragment → Path → Option ℕ → ℕ → Bool → Type 0
 IsListedAt def f path k o listed = (listed ≡ true) ↔ IsChoosable def f path k (IsListed def) o
 
--- a list of elements of the phylum is at the path, with so many elements or more
+-- a list of elements of the phylum is at the path, with that many elements or more
 pub record IsListAt (def : Definition) (f : Fragment) (path : Path) (place phylum : ℕ) : Type 0 where
   pub node : Fragment
   pub there : node_at f path ≡ Some node

@@ -1,5 +1,6 @@
--- How values, menus and names are told in a message.
-use Rattle.std.specs.Prelude.{ℕ, Bool, true, false, cond, List, [], ◌∷◌, ◌++◌, map, Option, Some, None, codes, nat_lt, length, take}
+-- How values, menus and names are reported in a message.
+use Rattle.std.specs.Prelude.{ℕ, Bool, true, false, cond, List, [], ◌∷◌, ◌++◌, map, Option, Some, None, codes, nat_lt}
+use Rattle.std.specs.Prelude.{length, take}
 use Rattle.psg_terms.specs.Relations.{IsIn}
 use Rattle.psg_terms.specs.Signature.{HasSort, Signature}
 use Rattle.psg_terms.specs.Terms.{Term, variable, symbol, apply}
@@ -12,7 +13,7 @@ use Rattle.psg_grammar.specs.Lookups.{operator_at}
 abbrev pub AreSorted : Signature → List Term → Type 0
 AreSorted sig terms = (t : Term) → IsIn t terms → (s : ℕ) × HasSort sig t s
 
--- so many values are told at most
+-- that many values are reported at most
 abbrev pub most_values : ℕ
 most_values = 6
 

@@ -1,4 +1,5 @@
-//! What is wanted at a place of a program, in words: the values that it may have, and the operators that may be put there.
+//! What is wanted at a place of a program, in words: the values that it may have, and the operators that may be put
+//! there.
 //!
 //! ```text
 //! let values = values_at(alloc, note, path, steps)?;

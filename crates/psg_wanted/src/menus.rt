@@ -1,5 +1,6 @@
 //! The operators that may be put at a place.
-ghost use Rattle.std.specs.Prelude.{◌≡◌, ◌∷◌, ◌++◌, ◌<◌, [], ℕ, IfOk, OnOk, Option, Some, false, length, slice_get, true};
+ghost use Rattle.std.specs.Prelude.{◌≡◌, ◌∷◌, ◌++◌, ◌<◌, [], ℕ, IfOk, OnOk, Option, Some, false, length, slice_get};
+ghost use Rattle.std.specs.Prelude.{true};
 ghost use Rattle.std.specs.List.{AllByRecursion};
 ghost use Rattle.psg_cache.specs.Notes.{AreTables};
 ghost use Rattle.psg_eval.specs.Frames.{CanClimb, StandAt};

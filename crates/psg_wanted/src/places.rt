@@ -19,8 +19,8 @@ use psg_tree::Path;
 use std::alloc::{AllocError, Global};
 use std::sync::ledger::Ledger;
 
-/// Returns the operators that may be put in place of the placeholder at the path, and those that make the tree too wide.
-/// `used` are the names of the tree.
+/// Returns the operators that may be put in place of the placeholder at the path, and those that make the tree too
+/// wide. `used` are the names of the tree.
 pub fn hole_menu<L: Ledger>(
     alloc: Global,
     definition: &Definition,

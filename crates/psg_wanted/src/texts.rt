@@ -1,4 +1,4 @@
-//! How values and menus are told.
+//! How values and menus are reported.
 ghost use Rattle.std.specs.Prelude.{◌≡◌, ◌++◌, ℕ, IfOk, OnOk, codes, map, slice_get, string_bytes};
 ghost use Rattle.psg_terms.specs.Signature.{HasSort};
 ghost use Rattle.psg_terms.specs.Text.{term_text as term_text_of};
@@ -9,7 +9,7 @@ use psg_grammar::{Definition, Operator};
 use psg_terms::{Node, Signature, Term, term_text};
 use std::alloc::{AllocError, Global};
 
-/// How many values are told at most.
+/// How many values are reported at most.
 const MOST_VALUES: usize = 6;
 
 /// Says whether the term is a variable.

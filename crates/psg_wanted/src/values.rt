@@ -1,5 +1,6 @@
 //! What the nodes and names of a tree may be.
-ghost use Rattle.std.specs.Prelude.{◌≡◌, ◌↔◌, ◌∷◌, [], ℕ, IfNone, IfOk, IfSome, IsTrue, List, None, Some, bytes_eq, false, length};
+ghost use Rattle.std.specs.Prelude.{◌≡◌, ◌↔◌, ◌∷◌, [], ℕ, IfNone, IfOk, IfSome, IsTrue, List, None, Some, bytes_eq};
+ghost use Rattle.std.specs.Prelude.{false, length};
 ghost use Rattle.psg_terms.specs.Names.{is_among};
 ghost use Rattle.psg_terms.specs.Relations.{IsIn, IsRelation};
 ghost use Rattle.psg_terms.specs.Signature.{HasSort, Signature as PlainSignature};
@@ -259,7 +260,8 @@ fn only_terms(alloc: Global, rows: &[RelRow]) -> Result<Vec<Term>, AllocError>
     Ok(found)
 }
 
-/// Returns the entities of the key in completions of the tree of the note; none where its relation has no column for it.
+/// Returns the entities of the key in completions of the tree of the note; none where its relation has no column for
+/// it.
 fn key_values_in(
     alloc: Global,
     definition: &Definition,
@@ -286,8 +288,8 @@ fn key_values_in(
 }
 
 /// Returns the entities that the name may have in completions of the tree, as most general terms in the order of their
-/// texts. It returns none where the tree passes a limit, and where its relation has no column for the name: the tree does
-/// not use it, or an unfinished list may still declare it.
+/// texts. It returns none where the tree passes a limit, and where its relation has no column for the name: the tree
+/// does not use it, or an unfinished list may still declare it.
 pub fn key_values<L: Ledger>(
     alloc: Global,
     definition: &Definition,

@@ -53,8 +53,8 @@ impl Cursors {
         &self.paths.as_slice()[window as usize]
     }
 
-    /// Returns the command with the window's cursor in place of `.`. A command that names a path, or no place at all, is
-    /// returned as it is.
+    /// Returns the command with the window's cursor in place of `.`. A command that names a path, or no place at all,
+    /// is returned as it is.
     ///
     /// Fails only when out of memory. The texts of the command are shared, and its path is copied.
     pub fn resolved(
@@ -70,8 +70,8 @@ impl Cursors {
         resolve(alloc, self.cursor(window), command)
     }
 
-    /// Says whether each step of each cursor can be raised by one. It can where each cursor leads to a node of a program of
-    /// fewer nodes. It reads all paths once.
+    /// Says whether each step of each cursor can be raised by one. It can where each cursor leads to a node of a
+    /// program of fewer nodes. It reads all paths once.
     pub fn has_room(&self) -> bool
         ensures { IsTrue result ↔ HasRoom self.now }
     {
@@ -84,9 +84,9 @@ impl Cursors {
     /// Returns the cursors after a resolved command of the window that was accepted. `own` is the editor's cursor after
     /// the command, which becomes that of the window after a change of the program and after `goto`.
     ///
-    /// Another window's cursor is set to the top where a whole other program came. Below a list to which an element was
-    /// added, or from which one was taken, its step is counted anew, and a cursor in the element that went is set to the
-    /// list. Below a node that was replaced it is set to that node. Else it stays.
+    /// Another window's cursor is set to the top if the whole program is replaced by another. Below a list to which an
+    /// element was added, or from which one was taken, its step is counted again, and a cursor in the element that went
+    /// is set to the list. Below a node that was replaced it is set to that node. Else it stays.
     ///
     /// Fails only when out of memory, and these cursors stay as they are. The time is that of reading all paths once.
     pub fn moved(

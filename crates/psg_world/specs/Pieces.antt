@@ -1,4 +1,4 @@
--- What an input that comes by pieces has still to give, how many bytes it gave, and which reads of it failed.
+-- What an input that is read by pieces has still to give, how many bytes it gave, and which reads of it failed.
 use Rattle.std.specs.Prelude.{ℕ, ◌≡◌, ◌+◌, List, [], ◌∷◌, ◌++◌, length, min, max, slice_get}
 use Rattle.std.specs.Prelude.{Option, Some, None, Result, Ok, Err, Vec}
 use Rattle.std.specs.Io.KnownBytes.{Consumes, IsAtEnd}
@@ -23,9 +23,9 @@ missed_after_piece missed given (Ok piece) = missed
 missed_after_piece missed given (Err read_stops.Failed) = missed ++ given ∷ []
 missed_after_piece missed given (Err read_stops.Memory) = missed
 
--- An input in memory that comes by pieces: the bytes still to be given, the sizes of the pieces, the numbers of the
--- reads that are to fail, how many reads there were, how many bytes were given, and after how many each read failed. The
--- first read has number 1.
+-- An input in memory that is read by pieces: the bytes still to be given, the sizes of the pieces, the numbers of the
+-- reads that are to fail, how many reads there were, how many bytes were given, and after how many each read failed.
+-- The first read has number 1.
 pub record PiecesInMemory : Type 0 where
   pub left : List ℕ
   pub sizes : List ℕ
@@ -39,6 +39,6 @@ abbrev pub size_by : Option ℕ → ℕ → ℕ
 size_by None most = most
 size_by (Some size) most = min most (max size 1)
 
--- how many bytes a read gives at most, after so many reads
+-- how many bytes a read gives at most, after that many reads
 abbrev pub size_after : List ℕ → ℕ → ℕ → ℕ
 size_after sizes calls most = size_by (slice_get sizes calls) most

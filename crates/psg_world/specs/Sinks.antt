@@ -7,7 +7,7 @@ use Rattle.psg_world.specs.declared.world.WriteStop.{WriteStop}
 abbrev pub raised : ℕ → ℕ
 raised count = min (count + 1) (2 ^ 64 - 1)
 
--- So many more, as far as a `u64` counts.
+-- That many more, as far as a `u64` counts.
 abbrev pub raised_by : ℕ → ℕ → ℕ
 raised_by count more = min (count + more) (2 ^ 64 - 1)
 

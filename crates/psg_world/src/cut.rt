@@ -1,5 +1,6 @@
-// An input in memory that comes by pieces, of which some reads are to fail.
-ghost use Rattle.std.specs.Prelude.{◌≡◌, ◌<◌, ◌≤◌, [], false, Some, IsTrue, IfOk, OnOk, OnErr, IsErrOf, take, drop, vec_len};
+// An input in memory that is read by pieces, of which some reads are to fail.
+ghost use Rattle.std.specs.Prelude.{◌≡◌, ◌<◌, ◌≤◌, [], false, Some, IsTrue, IfOk, OnOk, OnErr, IsErrOf, take, drop};
+ghost use Rattle.std.specs.Prelude.{vec_len};
 ghost use Rattle.psg_world.specs.Pieces.{IsPieceOf, given_after_piece, missed_after_piece, size_after};
 ghost use Rattle.psg_world.specs.Memory.{is_due};
 ghost use Rattle.psg_world.specs.Sinks.{raised};
@@ -11,7 +12,7 @@ use crate::world::ReadStop;
 use std::alloc::Global;
 use std::marker::Model;
 
-/// An input in memory that comes by pieces of given sizes, and of which some reads fail.
+/// An input in memory that is read by pieces of given sizes, and of which some reads fail.
 #[derive(Drop)]
 pub struct MemPieces {
     bytes: Vec<u8>,
@@ -37,10 +38,10 @@ impl Model for MemPieces {
 }
 
 impl MemPieces {
-    /// Makes an input that gives these bytes. Reads are numbered from 1. The first of `sizes` is the most that the first
-    /// read gives, the second that of the second read, and so on, but each read gives at least one byte; a read without
-    /// a size gives as many as are asked for. `failing` has the numbers of the reads that fail. Takes no memory; `alloc`
-    /// keeps the entries of the reads that fail.
+    /// Makes an input that gives these bytes. Reads are numbered from 1. The first of `sizes` is the most that the
+    /// first read gives, the second that of the second read, and so on, but each read gives at least one byte; a read
+    /// without a size gives as many as are asked for. `failing` has the numbers of the reads that fail. Takes no
+    /// memory; `alloc` keeps the entries of the reads that fail.
     pub fn new(alloc: Global, bytes: Vec<u8>, sizes: Vec<usize>, failing: Vec<u64>) -> Self
         ensures left { result.left ≡ bytes.items }
         ensures sizes { result.sizes ≡ sizes.items }
@@ -95,7 +96,7 @@ impl Pieces for MemPieces {
     }
 }
 
-// The number of bytes that a read gives at most, after so many reads.
+// The number of bytes that a read gives at most, after that many reads.
 fn size_after(sizes: &[usize], calls: u64, most: usize) -> usize
     requires { 0 < most }
     ensures size { result ≡ size_after sizes.now calls most }
@@ -108,7 +109,7 @@ fn size_after(sizes: &[usize], calls: u64, most: usize) -> usize
     }
 }
 
-// The bytes after so many of them.
+// The bytes after that many of them.
 fn after(bytes: &[u8], count: u64) -> &[u8]
     ensures { result.now ≡ drop count bytes.now }
 {

@@ -80,9 +80,9 @@ impl<'a, R: rt::Files> Files for HostFiles<'a, R> {
     }
 
     /// Writes the bytes to a new file beside, whose name is this one with `.psg-new` after it, and gives it the name
-    /// once all of them are on the disk. It has the rights of the file that it takes the place of, and where the name is
-    /// a link, it takes the place of what the link leads to. It fails where there is a file beside already, where the
-    /// name is that of a folder, a pipe or a device, and where the file may not be written; the file beside is then
+    /// once all of them are on the disk. It has the rights of the file that it takes the place of, and where the name
+    /// is a link, it takes the place of what the link leads to. It fails where there is a file beside already, where
+    /// the name is that of a folder, a pipe or a device, and where the file may not be written; the file beside is then
     /// removed, if it was made here. One that a killed program has left stays, and is to be removed by hand.
     fn replace(&mut self, _alloc: Global, name: &str, bytes: &[u8]) -> Result<(), WriteStop> {
         self.faults.try_reserve(1)?;

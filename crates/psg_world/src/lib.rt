@@ -25,7 +25,7 @@
 //!
 //! | What it is | Pieces |
 //! |---|---|
-//! | the bytes of a reader, as of standard input, as they come; they are known where the reader's bytes are | `ReaderPieces` |
+//! | the bytes of a reader, such as standard input; they are known where the reader's bytes are | `ReaderPieces` |
 //! | in memory, with the sizes of the pieces and the numbers of the reads that fail; they are known | `MemPieces` |
 //!
 //! Contracts see files as two values: `holds`, a finite map from the bytes of a name to the bytes of its file, where
@@ -44,8 +44,8 @@
 //!   at the last value of a `u64` it counts as risen.
 //! - A read of a line answers `Failed` exactly where it adds one entry at the end of `missed`. A line that is too long
 //!   is given in part, and the rest of it is passed over.
-//! - A read of a piece gives the next bytes, and none only at the end; where they are cut is not said. After an `Err` no
-//!   byte is lost, and it answers `Failed` exactly where it adds one entry at the end of `missed`.
+//! - A read of a piece gives the next bytes, and none only at the end; where they are cut is not said. After an `Err`
+//!   no byte is lost, and it answers `Failed` exactly where it adds one entry at the end of `missed`.
 //! - `Memory` says that memory ran out, and nothing else: no entry is added and nothing is taken.
 #![tactic(auto)]
 

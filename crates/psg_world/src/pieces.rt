@@ -1,4 +1,4 @@
-// The trait by which a program sees an input whose bytes it takes as they come.
+// The trait by which a program sees an input whose bytes it takes as they arrive.
 ghost use Rattle.std.specs.Prelude.{◌≡◌, ◌<◌, ◌≤◌, ℕ, List, Option, IfOk, OnErr, vec_len};
 ghost use Rattle.std.specs.Io.KnownBytes.{Keeps};
 ghost use Rattle.psg_world.specs.Pieces.{IsPieceOf, given_after_piece, missed_after_piece};
@@ -6,7 +6,7 @@ ghost use Rattle.psg_world.specs.Pieces.{IsPieceOf, given_after_piece, missed_af
 use crate::world::ReadStop;
 use std::alloc::Global;
 
-/// An input, taken by pieces, as its bytes come.
+/// An input, taken by pieces, as its bytes arrive.
 pub trait Pieces {
     // the bytes that are still to be given, where they are known
     ghost left: { Self → Option (List ℕ) };
@@ -17,9 +17,9 @@ pub trait Pieces {
     // of each read that failed, how many bytes were given before it
     ghost missed: { Self → List ℕ };
 
-    /// Gives the bytes that come next, at least one of them and at most `most`, or none at the end. Where they are cut
-    /// is the input's choice. `Failed` adds an entry to those of the failed reads, `Memory` adds none; after an `Err` no
-    /// byte is lost.
+    /// Gives the next bytes, at least one of them and at most `most`, or none at the end. Where they are cut is the
+    /// input's choice. `Failed` adds an entry to those of the failed reads, `Memory` adds none; after an `Err` no byte
+    /// is lost.
     fn next_piece(&mut self, alloc: Global, most: usize) -> Result<Vec<u8>, ReadStop>
         requires { 0 < most }
         ensures gives { IfOk result (λ piece. IsPieceOf (left self.old) (left self.new) piece.items) }

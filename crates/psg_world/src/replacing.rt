@@ -8,8 +8,8 @@ use std::{fs, rt};
 // What is added to a name for the file beside.
 const BESIDE: &str = ".psg-new";
 
-/// Writes the bytes to a new file beside the one of the name, which then takes its place. Where that fails, the new file is
-/// removed.
+/// Writes the bytes to a new file beside the one of the name, which then takes its place. Where that fails, the new
+/// file is removed.
 pub fn replace_file<R: rt::Files>(
     alloc: Global,
     runtime: &R,

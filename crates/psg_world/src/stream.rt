@@ -1,4 +1,4 @@
-// The bytes that a reader gives, as they come, as those of the machine's standard input.
+// The bytes that a reader gives, as they arrive, such as those of the machine's standard input.
 ghost use Rattle.std.specs.Prelude.{◌≡◌, ◌<◌, ◌≤◌, [], IfSome, IfNone, length, take};
 ghost use Rattle.std.specs.Io.KnownBytes.{Consumes, IsAtEnd, Keeps};
 
@@ -60,8 +60,8 @@ impl<S: Read + Drop> Pieces for ReaderPieces<S> {
     }
 }
 
-// How many bytes one read put at the front of the buffer, or none where it failed. A read that a signal broke off is tried
-// again.
+// How many bytes one read put at the front of the buffer, or none where it failed. A read that a signal broke off is
+// tried again.
 fn read_some<S: Read>(source: &mut S, buffer: &mut [u8]) -> Option<usize>
     requires { 0 < length buffer.old }
     ensures room { length buffer.new ≡ length buffer.old }

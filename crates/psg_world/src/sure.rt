@@ -67,7 +67,8 @@ impl Files for SureFiles {
         Ok(copy_front(alloc, bytes, limit)?)
     }
 
-    /// The only error is that of running out of memory, and no file has then changed. A walk over the files.
+    /// Puts the bytes under the name. The only error is that of running out of memory, and no file has then changed. It
+    /// walks once over the files.
     fn write(&mut self, _alloc: Global, name: &str, bytes: &[u8]) -> Result<(), WriteStop>
         ensures replaces { OnOk result (self.new ≡ map.insert self.old name.now bytes.now) }
         ensures others { AgreesOutside name.now self.old self.new }
@@ -78,7 +79,7 @@ impl Files for SureFiles {
         Ok(())
     }
 
-    /// The only error is that of running out of memory. A walk over the files.
+    /// Puts the bytes under the name. The only error is that of running out of memory. It walks once over the files.
     fn replace(&mut self, _alloc: Global, name: &str, bytes: &[u8]) -> Result<(), WriteStop>
         ensures replaces { OnOk result (self.new ≡ map.insert self.old name.now bytes.now) }
         ensures others { AgreesOutside name.now self.old self.new }

@@ -33,7 +33,7 @@ impl Tally {
         self.given = self.given.saturating_add(1);
     }
 
-    /// Counts so many more bytes. At the last number that a `u64` has the count stays.
+    /// Counts that many more bytes. At the last number that a `u64` has the count stays.
     pub fn count_bytes(&mut self, more: usize)
         ensures given { self.new.given ≡ raised_by self.old.given more }
         ensures missed { self.new.missed ≡ self.old.missed }
