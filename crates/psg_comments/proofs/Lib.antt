@@ -1,0 +1,5 @@
+pub mod Fronts
+pub mod Meetings
+pub mod Walks
+pub mod Cuts
+pub mod Filling

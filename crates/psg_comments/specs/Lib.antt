@@ -1,0 +1,4 @@
+pub mod Fitting
+pub mod Finding
+pub mod Blanking
+pub mod Steps

@@ -1,0 +1,4 @@
+pub mod Naming
+pub mod Plain
+pub mod Reading
+pub mod Refusals
