@@ -1,5 +1,5 @@
 -- A text cut between its characters, and the end of a line.
-use Rattle.std.proofs.Common.{◌≡◌, ℕ, ◌+◌, ◌-◌, ◌<◌, ◌≤◌, Bool, true, false, List, [], ◌∷◌, ◌++◌, length, drop, sym, ap, ◌∙◌, subst, refl, append_assoc, append-nil, arith, length-append}
+use Rattle.std.proofs.Common.{◌≡◌, inl, inr, ℕ, ◌+◌, ◌-◌, ◌<◌, ◌≤◌, Bool, true, false, List, [], ◌∷◌, ◌++◌, length, drop, sym, ap, ◌∙◌, subst, refl, append_assoc, append-nil, arith, length-append}
 use Rattle.std.specs.Prelude.{None, cond, chars, encode_utf8, encode_utf8_all, ◌==◌, ◌&&◌, ◌||◌}
 use Rattle.std.specs.Str.{IsUtf8, IsCharBoundary, all_scalars}
 use Rattle.std.proofs.Math.Seq.{drop-append_seam}
@@ -9,7 +9,8 @@ use lib.Utf8.{scalar}
 use Rattle.psg_terms.specs.Names.{Name}
 use Rattle.psg_lexis.specs.Classes.{Chars, is_symbol, BeginsBy}
 use Rattle.psg_lexis.specs.Tokens.{bytes_of}
-use Rattle.psg_lexis.specs.Faults.{HasFault}
+use Rattle.psg_lexis.specs.Faults.{HasFault, OrMemory}
+use Rattle.psg_lexis.specs.declared.token.LexFault.{LexFault}
 use Rattle.psg_lexis.specs.declared.token.LexFault.TheVariants as faults
 use Rattle.psg_comments.specs.Fitting.{begins_with, IsFit}
 use Rattle.psg_comments.specs.Finding.{is_end, line_of, after_line, HasComments, comment}
@@ -104,6 +105,22 @@ all_walked fixed token text found at rest w none =
 
 -- ---- the first comment, at the place of a fault
 
+same_run : (p q : ℕ) → faults.BadRun p ≡ faults.BadRun q → p ≡ q
+same_run p q e = cc
+
+pub fault_is : (fixed : List Name) (cs : Chars) (f : LexFault) (q : ℕ) → OrMemory (HasFault fixed cs 0) f
+    → f ≡ faults.BadRun q → HasFault fixed cs 0 (faults.BadRun q)
+fault_is fixed cs f q (inl m) e = absurd (cc)
+fault_is fixed cs f q (inr h) e = subst (HasFault fixed cs 0) e h
+
+-- a fault that is not one of a run
+pub none_with_fault : (fixed : List Name) (token : List ℕ) → IsFit fixed token → (text : List ℕ) (f : LexFault)
+    → OrMemory (HasFault fixed (chars text) 0) f → (f ≡ faults.Memory → ⊥) → ((q : ℕ) → f ≡ faults.BadRun q → ⊥)
+    → IsFirstOrNone fixed (chars token) text None
+none_with_fault fixed token fit text f (inl m) no other at = absurd (no m)
+none_with_fault fixed token fit text f (inr h) no other at =
+    none_before_fault fixed token fit (chars text) 0 f h (λ front back e g. absurd (other (0 + bytes_of front) g)) at
+
 module _ (fixed : List Name) (token : List ℕ) (fit : IsFit fixed token) (text : List ℕ) (u : IsUtf8 text) (q : ℕ)
     (h : HasFault fixed (chars text) 0 (faults.BadRun q)) where
   place : IsPlace fixed token fit (chars text) 0 q
@@ -130,11 +147,10 @@ module _ (fixed : List Name) (token : List ℕ) (fit : IsFit fixed token) (text 
           → begins_with back (chars token) ≡ false
       same front back s g =
           let other = cut_at text front back u s in
-          let n : bytes_of front ≡ q = cc (g, zero_plus (bytes_of front)) in
+          let zero : 0 + bytes_of front ≡ bytes_of front = omega arith in
+          let n : bytes_of front ≡ q = sym (same_run q (0 + bytes_of front) g ∙ zero) in
           subst (λ cs. begins_with cs (chars token) ≡ false)
           (ap chars (e ∙ ap (λ n. drop n text) (sym n)) ∙ other.rest) b
-      zero_plus : (n : ℕ) → 0 + n ≡ n
-      zero_plus n = omega arith
 
   -- a comment begins there
   pub first_there : (tail : List ℕ) (n : ℕ) → tail ≡ drop q text → begins_with (chars tail) (chars token) ≡ true

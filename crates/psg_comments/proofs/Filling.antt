@@ -131,3 +131,13 @@ filled_all c at old new f h = record {
       | inl b ↦ f.before place b
       | inr b ↦ f.after place (omega (arith, e, b))
     ]
+
+-- a comment more of those that are there
+pub fill_next : (text : List ℕ) (cs : List Comment) (i : ℕ) (d : Comment) (old new : List ℕ) → i < length cs
+    → AreSpaces text (take i cs) old → IsFilled (get_or cs i d) old new → AreSpaces text (take (i + 1) cs) new
+fill_next text cs i d old new l a f =
+    subst (λ ds. AreSpaces text ds new) (sym (take_suc cs i d l)) (fill_more text (take i cs) (get_or cs i d) old new a f)
+
+pub fill_all : (text : List ℕ) (cs : List Comment) (i : ℕ) (new : List ℕ) → length cs ≤ i → AreSpaces text (take i cs) new
+    → AreSpaces text cs new
+fill_all text cs i new l a = subst (λ ds. AreSpaces text ds new) (take_all cs i l) a

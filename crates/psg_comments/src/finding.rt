@@ -62,11 +62,14 @@ fn first_comment(
     requires fit { IsFit lexis.now token.now }
     ensures { IfOk result (IsFirstOrNone lexis.now (chars token.now) text.now) }
 {
-    match lex(alloc, lexis, text) {
-        Ok(_) => Ok(None),
-        Err(LexFault::BadRun(at)) => Ok(comment_at(text, token, at)),
-        Err(LexFault::Memory) => Err(AllocError),
-        Err(LexFault::BadChar(_) | LexFault::Unended(_) | LexFault::TooLarge(_)) => Ok(None),
+    let fault = match lex(alloc, lexis, text) {
+        Ok(_) => return Ok(None),
+        Err(fault) => fault,
+    };
+    match fault {
+        LexFault::BadRun(at) => Ok(comment_at(text, token, at)),
+        LexFault::Memory => Err(AllocError),
+        LexFault::BadChar(_) | LexFault::Unended(_) | LexFault::TooLarge(_) => Ok(None),
     }
 }
 

@@ -1,6 +1,7 @@
 -- The line that names the token of comments: `comment` and a quoted text.
 use Rattle.std.specs.Prelude.{ℕ, ◌≤◌, ◌==◌, ◌&&◌, nat_le, not, Bool, true, false, cond, Option, Some, None, option_map}
 use Rattle.std.specs.Prelude.{List, [], ◌∷◌, length, take, drop, codes, chars, encode_utf8_all, bytes_eq}
+use Rattle.std.specs.Str.{is_utf8}
 use Rattle.psg_terms.specs.Names.{Name}
 use Rattle.psg_lexis.specs.Classes.{Chars, is_escape}
 use Rattle.psg_lexis.specs.Tokens.{is_content}
@@ -38,10 +39,14 @@ short None = None
 short (Some w) = cond (nat_le (length (encode_utf8_all w)) 4096) (Some (encode_utf8_all w)) None
 
 -- the contents of a quoted text, where the characters are one
-abbrev pub quoted_in : Chars → Option Name
-quoted_in [] = None
-quoted_in (c ∷ cs) = cond (c == 34) (short (contents false cs)) None
+abbrev pub quoted_by : Chars → Option Name
+quoted_by [] = None
+quoted_by (c ∷ cs) = cond (c == 34) (short (contents false cs)) None
+
+-- the contents of a quoted text, where the bytes are one
+abbrev pub quoted_in : List ℕ → Option Name
+quoted_in part = cond (is_utf8 part) (quoted_by (chars part)) None
 
 -- the token that the line names: the word `comment`, any number of spaces, and the token as a quoted text
 abbrev pub token_of : List ℕ → Option Name
-token_of line = cond (bytes_eq (take 7 line) (codes "comment")) (quoted_in (chars (past_spaces (drop 7 line)))) None
+token_of line = cond (bytes_eq (take 7 line) (codes "comment")) (quoted_in (past_spaces (drop 7 line))) None

@@ -1,5 +1,6 @@
 -- The first fault of a definition file that may name a token of comments.
 use Rattle.std.specs.Prelude.{ℕ, ◌≡◌, ◌<◌, ◌⊎◌, ◌++◌, Bool, true, false, List, [], ◌∷◌, codes, decimal}
+use Rattle.psg_terms.specs.Names.{Name}
 use Rattle.psg_grammar.specs.WellFormed.{fixed_words}
 use Rattle.psg_grammar.specs.declared.types.Definition.{Definition}
 use Rattle.psg_deflines.specs.FaultText.{fault_text}
@@ -49,6 +50,13 @@ pub data FileRefusal (bytes : List ℕ) : FileFault → Type 0 where
       → FileRefusal bytes (Repeated line)
   unfit : (named : Named) (def : Definition) → named_in bytes ≡ named ∷ [] → IsReadAs (plain_of bytes) def
       → (IsFit (fixed_words def) named.token → ⊥) → FileRefusal bytes (Unfit named.line)
+
+-- the line names a token that does not fit these words, or memory ran out
+abbrev pub IsUnfit : List Name → Named → FileFault → Type 0
+IsUnfit fixed named Memory = Unit {0}
+IsUnfit fixed named (Unfit line) = (line ≡ named.line) × (IsFit fixed named.token → ⊥)
+IsUnfit fixed named (DefinitionFault fault) = ⊥
+IsUnfit fixed named (Repeated line) = ⊥
 
 -- a fault is the first one of the bytes; memory may run out at any time
 abbrev pub IsFileFault : List ℕ → FileFault → Type 0

@@ -1,10 +1,11 @@
 //! A definition file without its lines on comments.
-ghost use Rattle.std.specs.Prelude.{◌≡◌, ◌<◌, ◌^◌, IfOk, length};
+ghost use Rattle.std.specs.Prelude.{◌≡◌, ◌<◌, ◌^◌, ◌++◌, ◌∷◌, [], Bool, IfOk, OnOk, cond, length, map};
+ghost use Rattle.std.specs.Str.Lines.{lines as lines_of};
 ghost use Rattle.psg_defcomment.specs.Plain.{is_head as is_head_of, named_in, plain_of};
+ghost use Rattle.psg_defcomment.specs.Writing.{AddsLine, ArePlain};
 
 use crate::lines::Named;
 use crate::quotes::{past_spaces, token_of};
-use psg_terms::Txt;
 use std::alloc::{AllocError, Global};
 
 /// A file without its lines on comments, and these lines.
@@ -17,78 +18,107 @@ pub struct Plain {
 }
 
 /// Says whether the line is the head of version 3.
-fn is_head(line: &str) -> bool
+fn is_head(line: &[u8]) -> bool
     ensures { result ≡ is_head_of line.now }
 {
-    match line.strip_prefix("psg ") {
-        Some(behind) => past_spaces(behind) == "3",
+    let word = &[b'p', b's', b'g', b' '];
+    match line.strip_prefix(word) {
+        Some(behind) => past_spaces(behind) == [b'3'],
         None => false,
     }
 }
 
-/// Writes the line with its end, or an empty line where it names the token.
-fn push_line(bytes: &mut Vec<u8>, line: &str, named: bool) -> Result<(), AllocError> {
-    if !named {
-        bytes.extend_from_slice(line.as_bytes())?;
-    }
+/// Writes the line with a carriage return and a line feed behind it.
+fn push_line(bytes: &mut Vec<u8>, line: &[u8]) -> Result<(), AllocError>
+    ensures { OnOk result (bytes.new.items ≡ bytes.old.items ++ (line.now ++ (13 ∷ 10 ∷ []))) }
+{
+    bytes.extend_from_slice(line)?;
     bytes.push(b'\r')?;
     bytes.push(b'\n')?;
     Ok(())
 }
 
-/// Writes the line, the number of which is given, with its end, or keeps the token that it names.
+/// Writes the line of this number, or an empty one in its place where it names a token, which is kept.
 fn push(
     alloc: Global,
-    line: &str,
+    line: &[u8],
     number: usize,
-    plain: &mut Plain,
-) -> Result<(), AllocError> {
-    let token = token_of(alloc, line)?;
-    push_line(&mut plain.bytes, line, token.is_some())?;
-    if let Some(token) = token {
-        plain.named.push(Named {
-            line: number,
-            token,
-        })?;
+    bytes: &mut Vec<u8>,
+    named: &mut Vec<Named>,
+) -> Result<(), AllocError>
+    ensures { OnOk result (AddsLine line.now number bytes.old.items named.old.items bytes.new.items named.new.items) }
+{
+    match token_of(alloc, line)? {
+        Some(token) => {
+            named.push(Named {
+                line: number,
+                token,
+            })?;
+            push_line(bytes, &[])
+        }
+        None => push_line(bytes, line),
     }
-    Ok(())
 }
 
 /// Returns the lines after the head of a file of version 3, with a head of version 2.
-fn plain_lines(alloc: Global, lines: &[&str]) -> Result<Plain, AllocError> {
-    let mut plain = Plain {
-        bytes: Vec::new(alloc),
-        named: Vec::new(alloc),
-    };
-    push_line(&mut plain.bytes, "psg 2", false)?;
-    for (place, line) in lines.iter().enumerate() {
-        push(alloc, line, place + 2, &mut plain)?;
+fn plain_lines(alloc: Global, lines: &[&str]) -> Result<Plain, AllocError>
+    requires few { length lines.now < 2 ^ 32 }
+    ensures { IfOk result (λ p. ArePlain (map (λ l. l.now) lines.now) p.bytes.items p.named.items) }
+{
+    let mut bytes = Vec::new(alloc);
+    let mut named = Vec::new(alloc);
+    push_line(&mut bytes, &[b'p', b's', b'g', b' ', b'2'])?;
+    let mut number = 2;
+    for line in lines {
+        push(alloc, line.as_bytes(), number, &mut bytes, &mut named)?;
+        number += 1;
     }
-    Ok(plain)
+    Ok(Plain { bytes, named })
 }
 
 /// Returns the bytes of a file as they are, which names no token.
 fn as_it_is(alloc: Global, bytes: &[u8]) -> Result<Plain, AllocError>
-    ensures { IfOk result (λ p. p.bytes.items ≡ bytes.now) }
+    ensures bytes { IfOk result (λ p. p.bytes.items ≡ bytes.now) }
+    ensures named { IfOk result (λ p. p.named.items ≡ []) }
 {
+    let copy = Vec::from_slice(alloc, bytes)?;
     Ok(Plain {
-        bytes: Vec::from_slice(alloc, bytes)?,
+        bytes: copy,
         named: Vec::new(alloc),
     })
 }
 
+/// The lines of a text, each without its line feed and one carriage return in front of it.
+fn text_lines<'a>(alloc: Global, text: &'a str) -> Result<Vec<&'a str>, AllocError>
+    ensures { IfOk result (λ v. map (λ t. t.now) v.items ≡ lines_of text.now) }
+{
+    text.lines().collect(alloc)
+}
+
+/// Returns the text of a file without its lines on comments, and these lines.
+fn plain_text(alloc: Global, text: &str) -> Result<Plain, AllocError>
+    requires { length text.now < 2 ^ 32 }
+    ensures bytes { IfOk result (λ p. p.bytes.items ≡ plain_of text.now) }
+    ensures named { IfOk result (λ p. p.named.items ≡ named_in text.now) }
+{
+    let lines = text_lines(alloc, text)?;
+    let Some((head, rest)) = lines.split_first() else {
+        return as_it_is(alloc, text.as_bytes());
+    };
+    if !is_head(head.as_bytes()) {
+        return as_it_is(alloc, text.as_bytes());
+    }
+    plain_lines(alloc, rest)
+}
+
 /// Returns the file without its lines on comments, and these lines.
-pub fn plain(alloc: Global, bytes: &[u8]) -> Result<Plain, AllocError>
+pub(crate) fn plain(alloc: Global, bytes: &[u8]) -> Result<Plain, AllocError>
     requires { length bytes.now < 2 ^ 32 }
     ensures bytes { IfOk result (λ p. p.bytes.items ≡ plain_of bytes.now) }
     ensures named { IfOk result (λ p. p.named.items ≡ named_in bytes.now) }
 {
-    let Ok(text) = str::from_utf8(bytes) else {
-        return as_it_is(alloc, bytes);
-    };
-    let lines: Vec<&str> = text.lines().collect(alloc)?;
-    match lines.as_slice().split_first() {
-        Some((head, rest)) if is_head(head) => plain_lines(alloc, rest),
-        _ => as_it_is(alloc, bytes),
+    match str::from_utf8(bytes) {
+        Ok(text) => plain_text(alloc, text),
+        Err(_) => as_it_is(alloc, bytes),
     }
 }
