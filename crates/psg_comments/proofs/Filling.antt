@@ -1,10 +1,10 @@
 -- Comments that become spaces one after the other.
-use Rattle.std.proofs.Common.{◌≡◌, ◌≢◌, ◌⊎◌, inl, inr, ℕ, ◌+◌, ◌-◌, ◌<◌, ◌≤◌, Bool, true, false, List, [], ◌∷◌, ◌++◌, length, get_or, set, sym, ap, ◌∙◌, subst, refl, arith}
+use Rattle.std.proofs.Common.{◌≡◌, ◌≢◌, ◌⊎◌, inl, inr, ℕ, ◌+◌, ◌-◌, ◌<◌, ◌≤◌, Bool, true, false, List, [], ◌∷◌, ◌++◌, length, take, get_or, set, sym, ap, ◌∙◌, subst, refl, arith}
 use Rattle.std.specs.Prelude.{nat_le, nat_lt, ◌&&◌, ◌||◌}
 use Rattle.std.specs.List.{list_any}
 use Rattle.std.proofs.lemmas.Bool.{and_parts, or_left, or_cases, false≢true, true≢false, cases_lt, lt-ltb, le-ltb, le-leb, lt-leb, ltb-true}
 use Rattle.std.proofs.lemmas.Bool.Decides.{nat_tests}
-use Rattle.std.proofs.lemmas.List.{get_or-set_same, get_or-set_other, length-set}
+use Rattle.std.proofs.lemmas.List.{get_or-set_same, get_or-set_other, length-set, take_more, take_all}
 use Rattle.std.proofs.lemmas.List.Folds.{list_any-append}
 use Rattle.psg_comments.specs.Blanking.{is_inside, AreSpaces}
 use Rattle.psg_comments.specs.Steps.{IsFilled}
@@ -136,8 +136,8 @@ filled_all c at old new f h = record {
 pub fill_next : (text : List ℕ) (cs : List Comment) (i : ℕ) (d : Comment) (old new : List ℕ) → i < length cs
     → AreSpaces text (take i cs) old → IsFilled (get_or cs i d) old new → AreSpaces text (take (i + 1) cs) new
 fill_next text cs i d old new l a f =
-    subst (λ ds. AreSpaces text ds new) (sym (take_suc cs i d l)) (fill_more text (take i cs) (get_or cs i d) old new a f)
+    subst (λ ds. AreSpaces text ds new) (sym (take_more cs i d l)) (fill_more text (take i cs) (get_or cs i d) old new a f)
 
 pub fill_all : (text : List ℕ) (cs : List Comment) (i : ℕ) (new : List ℕ) → length cs ≤ i → AreSpaces text (take i cs) new
     → AreSpaces text cs new
-fill_all text cs i new l a = subst (λ ds. AreSpaces text ds new) (take_all cs i l) a
+fill_all text cs i new l a = subst (λ ds. AreSpaces text ds new) (take_all i cs l) a

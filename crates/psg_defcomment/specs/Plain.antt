@@ -21,13 +21,14 @@ has_head (line ∷ rest) = is_head line
 abbrev pub is_third : List ℕ → Bool
 is_third bytes = is_utf8 bytes && has_head (lines bytes)
 
+-- nothing, where a token is named
+abbrev pub unless_named : Option Name → List ℕ → List ℕ
+unless_named None line = line
+unless_named (Some token) line = []
+
 -- a line that names a token of comments is empty here, and each other one is as it is
 abbrev pub plain_line : List ℕ → List ℕ
-plain_line line = with_token (token_of line)
-  where
-    with_token : Option Name → List ℕ
-    with_token None = line
-    with_token (Some token) = []
+plain_line line = unless_named (token_of line) line
 
 -- The lines one after the other, with a carriage return and a line feed after each. So a line that ends with a carriage
 -- return keeps it.

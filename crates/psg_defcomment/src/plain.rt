@@ -62,7 +62,6 @@ fn push(
 
 /// Returns the lines after the head of a file of version 3, with a head of version 2.
 fn plain_lines(alloc: Global, lines: &[&str]) -> Result<Plain, AllocError>
-    requires few { length lines.now < 2 ^ 32 }
     ensures { IfOk result (λ p. ArePlain (map (λ l. l.now) lines.now) p.bytes.items p.named.items) }
 {
     let mut bytes = Vec::new(alloc);
@@ -97,12 +96,11 @@ fn text_lines<'a>(alloc: Global, text: &'a str) -> Result<Vec<&'a str>, AllocErr
 
 /// Returns the text of a file without its lines on comments, and these lines.
 fn plain_text(alloc: Global, text: &str) -> Result<Plain, AllocError>
-    requires { length text.now < 2 ^ 32 }
     ensures bytes { IfOk result (λ p. p.bytes.items ≡ plain_of text.now) }
     ensures named { IfOk result (λ p. p.named.items ≡ named_in text.now) }
 {
     let lines = text_lines(alloc, text)?;
-    let Some((head, rest)) = lines.split_first() else {
+    let Some((head, rest)) = lines.as_slice().split_first() else {
         return as_it_is(alloc, text.as_bytes());
     };
     if !is_head(head.as_bytes()) {
@@ -113,7 +111,6 @@ fn plain_text(alloc: Global, text: &str) -> Result<Plain, AllocError>
 
 /// Returns the file without its lines on comments, and these lines.
 pub(crate) fn plain(alloc: Global, bytes: &[u8]) -> Result<Plain, AllocError>
-    requires { length bytes.now < 2 ^ 32 }
     ensures bytes { IfOk result (λ p. p.bytes.items ≡ plain_of bytes.now) }
     ensures named { IfOk result (λ p. p.named.items ≡ named_in bytes.now) }
 {

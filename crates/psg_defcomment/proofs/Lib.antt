@@ -1,0 +1,4 @@
+pub mod Contents
+pub mod QuotedParts
+pub mod LineLaws
+pub mod Firsts
