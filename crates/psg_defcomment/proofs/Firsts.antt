@@ -1,5 +1,5 @@
 -- Which fault of a file is its first one.
-use Rattle.std.proofs.Common.{◌≡◌, ℕ, ◌<◌, ◌≤◌, Bool, true, false, List, [], ◌∷◌, length, get_or, inl, inr, sym, ap, ◌∙◌, subst, refl, arith}
+use Rattle.std.proofs.Common.{◌≡◌, ℕ, ◌<◌, ◌≤◌, Bool, true, false, List, [], ◌∷◌, length, get_or, Option, Some, None, inl, inr, sym, ap, ◌∙◌, subst, refl, arith}
 use Rattle.psg_terms.specs.Names.{Name}
 use Rattle.psg_grammar.specs.WellFormed.{fixed_words}
 use Rattle.psg_grammar.specs.declared.types.Definition.{Definition}
@@ -10,7 +10,7 @@ use Rattle.psg_defread.specs.Reading.{IsFaultless, IsReadAs}
 use Rattle.psg_defread.specs.Refusals.{IsReadFault, Refusal}
 use Rattle.psg_comments.specs.Fitting.{IsFit}
 use Rattle.psg_defcomment.specs.Plain.{named_in, plain_of}
-use Rattle.psg_defcomment.specs.Reading.{IsTokenOf}
+use Rattle.psg_defcomment.specs.Reading.{AreFit, IsCommentOf, first_token}
 use Rattle.psg_defcomment.specs.Refusals.{FileRefusal, of_definition, named_before, named_twice, unfit, IsFileFault, IsLater, IsSecond, IsUnfit}
 use Rattle.psg_defcomment.specs.declared.lines.Named.{Named}
 use Rattle.psg_defcomment.specs.declared.fault.FileFault.{FileFault}
@@ -66,7 +66,21 @@ unfit_fault bytes named first def (faults.Repeated line) e r o u = absurd u
 unfit_fault bytes named first def (faults.Unfit line) e r o u =
     subst (λ n. FileRefusal bytes (faults.Unfit n)) (sym u.0) (unfit first def (sym e ∙ o) r u.1)
 
-pub one_token : (fixed : List Name) (named : List Named) (first : Named) (token : Name) → named ≡ first ∷ []
-    → token ≡ first.token → IsFit fixed token → (line : ℕ) × (named ≡ record { line = line; token = token } ∷ []) × IsFit fixed token
-one_token fixed named first token o e f =
-    (first.line, o ∙ ap (λ t. record { line = first.line; token = t } ∷ []) (sym e), f)
+pub one_fit : (fixed : List Name) (named : List Named) (first : Named) (token : Name) → named ≡ first ∷ []
+    → token ≡ first.token → IsFit fixed token → AreFit fixed named × (Some token ≡ first_token named)
+one_fit fixed named first token o e f = (
+  subst (AreFit fixed) (sym o) (subst (IsFit fixed) e f),
+  ap Some e ∙ ap first_token (sym o),
+)
+
+pub none_fit : (fixed : List Name) (named : List Named) → named ≡ [] → AreFit fixed named × (None ≡ first_token named)
+none_fit fixed named e = (subst (AreFit fixed) (sym e) tt, ap first_token (sym e))
+
+pub fit_token : (fixed : List Name) (named : List Named) (o : Option Name) → AreFit fixed named → o ≡ first_token named
+    → IsCommentOf fixed o
+fit_token fixed named o f e = subst (IsCommentOf fixed) (sym e) (by named f)
+  where
+    by : (ns : List Named) → AreFit fixed ns → IsCommentOf fixed (first_token ns)
+    by [] g = tt
+    by (n ∷ []) g = g
+    by (n ∷ m ∷ rest) g = absurd g

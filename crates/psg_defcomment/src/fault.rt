@@ -8,7 +8,7 @@ use std::alloc::{AllocError, AllocFailed, Global};
 use thiserror::Error;
 
 /// The first fault of a definition file that may name a token of comments.
-#[derive(Debug, Drop, Error)]
+#[derive(Clone, Copy, Debug, Drop, Error)]
 pub enum FileFault {
     /// The file without its lines on comments has this fault.
     #[error("the definition has a fault")]

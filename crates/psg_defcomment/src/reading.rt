@@ -10,7 +10,7 @@ ghost use Rattle.psg_comments.specs.Fitting.{IsFit};
 ghost use Rattle.psg_defread.specs.Reading.{IsReadAs, Spells};
 ghost use Rattle.psg_defread.specs.Refusals.{IsReadFault};
 ghost use Rattle.psg_defcomment.specs.Plain.{named_in, plain_of};
-ghost use Rattle.psg_defcomment.specs.Reading.{IsCommented, IsTokenOf};
+ghost use Rattle.psg_defcomment.specs.Reading.{AreFit, IsCommentOf, IsCommented, comment_of, first_token};
 ghost use Rattle.psg_defcomment.specs.Refusals.{is_of_meaning as is_of_meaning_of};
 ghost use Rattle.psg_defcomment.specs.Refusals.{IsFileFault, IsLater, IsSecond, IsUnfit};
 
@@ -108,7 +108,8 @@ fn token_in(
     definition: &Definition,
     named: &[Named],
 ) -> Result<Option<Txt>, FileFault>
-    ensures ok { IfOk result (IsTokenOf (fixed_words_of definition.now) named.now) }
+    ensures fit { IfOk result (λ _. AreFit (fixed_words_of definition.now) named.now) }
+    ensures first { IfOk result (λ token. token ≡ first_token named.now) }
     ensures err { IfErr result (λ fault. (bytes : List ℕ) → named.now ≡ named_in bytes
         → IsReadAs (plain_of bytes) definition.now → IsFileFault bytes fault) }
 {
@@ -129,7 +130,9 @@ fn token_in(
 /// going over the bytes.
 pub fn read_commented(alloc: Global, bytes: &[u8]) -> Result<Commented, FileFault>
     requires { length bytes.now < 2 ^ 32 }
-    ensures ok { IfOk result (λ c. IsCommented bytes.now c.definition c.comment) }
+    ensures ok { IfOk result (λ c. IsCommented bytes.now c.definition) }
+    ensures comment { IfOk result (λ c. c.comment ≡ comment_of bytes.now) }
+    ensures fit { IfOk result (λ c. IsCommentOf (fixed_words_of c.definition) c.comment) }
     ensures only { IfOk result (λ c. (other : Plain) → Spells (plain_of bytes.now) other → other ≡ c.definition) }
     ensures err { IfErr result (IsFileFault bytes.now) }
     ensures sound { IfOk result (λ c. IsSound c.definition) }
