@@ -23,7 +23,7 @@ fn is_head(line: &[u8]) -> bool
 {
     let word = &[b'p', b's', b'g', b' '];
     match line.strip_prefix(word) {
-        Some(behind) => past_spaces(behind) == [b'3'],
+        Some(behind) => past_spaces(behind) == [b'3'].as_slice(),
         None => false,
     }
 }
