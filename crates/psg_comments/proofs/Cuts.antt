@@ -117,8 +117,8 @@ fault_is fixed cs f q (inr h) e = subst (HasFault fixed cs 0) e h
 pub none_with_fault : (fixed : List Name) (token : List ℕ) → IsFit fixed token → (text : List ℕ) (f : LexFault)
     → OrMemory (HasFault fixed (chars text) 0) f → (f ≡ faults.Memory → ⊥) → ((q : ℕ) → f ≡ faults.BadRun q → ⊥)
     → IsFirstOrNone fixed (chars token) text None
-none_with_fault fixed token fit text f (inl m) no other at = absurd (no m)
-none_with_fault fixed token fit text f (inr h) no other at =
+none_with_fault fixed token fit text f (inl m) never other at = absurd (never m)
+none_with_fault fixed token fit text f (inr h) never other at =
     none_before_fault fixed token fit (chars text) 0 f h (λ front back e g. absurd (other (0 + bytes_of front) g)) at
 
 module _ (fixed : List Name) (token : List ℕ) (fit : IsFit fixed token) (text : List ℕ) (u : IsUtf8 text) (q : ℕ)

@@ -3,3 +3,4 @@ pub mod Meetings
 pub mod Walks
 pub mod Cuts
 pub mod Filling
+pub mod Fits

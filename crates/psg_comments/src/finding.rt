@@ -69,7 +69,7 @@ fn first_comment(
     match fault {
         LexFault::BadRun(at) => Ok(comment_at(text, token, at)),
         LexFault::Memory => Err(AllocError),
-        LexFault::BadChar(_) | LexFault::Unended(_) | LexFault::TooLarge(_) => Ok(None),
+        _ => Ok(None),
     }
 }
 
