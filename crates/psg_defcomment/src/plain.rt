@@ -110,7 +110,7 @@ fn plain_text(alloc: Global, text: &str) -> Result<Plain, AllocError>
 }
 
 /// Returns the file without its lines on comments, and these lines.
-pub(crate) fn plain(alloc: Global, bytes: &[u8]) -> Result<Plain, AllocError>
+pub(crate) fn plain_file(alloc: Global, bytes: &[u8]) -> Result<Plain, AllocError>
     ensures bytes { IfOk result (λ p. p.bytes.items ≡ plain_of bytes.now) }
     ensures named { IfOk result (λ p. p.named.items ≡ named_in bytes.now) }
 {

@@ -16,7 +16,7 @@ ghost use Rattle.psg_defcomment.specs.Refusals.{IsFileFault, IsLater, IsSecond, 
 
 use crate::fault::FileFault;
 use crate::lines::Named;
-use crate::plain::plain;
+use crate::plain::plain_file;
 use psg_comments::is_fit;
 use psg_defread::{DefCode, DefFault, ReadFault, read_definition};
 use psg_grammar::Definition;
@@ -138,7 +138,7 @@ pub fn read_commented(alloc: Global, bytes: &[u8]) -> Result<Commented, FileFaul
     ensures sound { IfOk result (λ c. IsSound c.definition) }
     ensures words { IfOk result (λ c. AllByRecursion IsFixedWord (fixed_words_of c.definition)) }
 {
-    let file = plain(alloc, bytes)?;
+    let file = plain_file(alloc, bytes)?;
     let named = file.named.as_slice();
     let text = file.bytes.as_slice();
     if text.len() >= 0xffff_ffff {
