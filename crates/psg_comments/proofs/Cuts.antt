@@ -1,6 +1,6 @@
 -- A text cut between its characters, and the end of a line.
-use Rattle.std.proofs.Common.{◌≡◌, inl, inr, ℕ, ◌+◌, ◌-◌, ◌<◌, ◌≤◌, Bool, true, false, List, [], ◌∷◌, ◌++◌, length, drop, sym, ap, ◌∙◌, subst, refl, append_assoc, append-nil, arith, length-append}
-use Rattle.std.specs.Prelude.{None, cond, chars, encode_utf8, encode_utf8_all, ◌==◌, ◌&&◌, ◌||◌}
+use Rattle.std.proofs.Common.{◌≡◌, inl, inr, ℕ, ◌+◌, ◌<◌, ◌≤◌, Bool, true, false, List, [], ◌∷◌, ◌++◌, length, drop, sym, ap, ◌∙◌, subst, refl, append_assoc, append-nil, arith, length-append}
+use Rattle.std.specs.Prelude.{None, cond, chars, encode_utf8_all, ◌==◌, ◌&&◌, ◌||◌}
 use Rattle.std.specs.Str.{IsUtf8, IsCharBoundary, all_scalars}
 use Rattle.std.proofs.Math.Seq.{drop-append_seam}
 use Rattle.std.proofs.lemmas.Bool.{and_parts, eqb-true, false≢true}
@@ -64,8 +64,10 @@ no_end c cs h = by cs
   where
     ten : (c == 10) ≡ false
     ten = untrue _ (λ e. false≢true (sym (ap is_symbol (eqb-true c 10 e)) ∙ h))
+
     thirteen : (c == 13) ≡ false
     thirteen = untrue _ (λ e. false≢true (sym (ap is_symbol (eqb-true c 13 e)) ∙ h))
+
     by : (ds : Chars) → is_end (c ∷ ds) ≡ false
     by [] = ten
     by (d ∷ ds) = ap (λ b. b || ((c == 13) && (d == 10))) ten ∙ ap (λ b. b && (d == 10)) thirteen
@@ -161,7 +163,7 @@ module _ (fixed : List Name) (token : List ℕ) (fit : IsFit fixed token) (text 
       let begun : begins_with back (chars token) ≡ true = subst (λ cs. begins_with cs (chars token) ≡ true) same b in
       let len : n ≡ bytes_of (line_of back) = k ∙ ap (λ cs. bytes_of (line_of cs)) same in
       let split : chars text ≡ (place.front ++ line_of back) ++ after_line back = place.split
-          ∙ ap (λ xs. place.front ++ xs) (line_whole back) ∙ sym (append_assoc place.front (line_of back) (after_line back)) in
+      ∙ ap (λ xs. place.front ++ xs) (line_whole back) ∙ sym (append_assoc place.front (line_of back) (after_line back)) in
       let far = cut_at text (place.front ++ line_of back) (after_line back) u split in
       let sum : bytes_of (place.front ++ line_of back) ≡ q + n = omega (arith, bytes-append place.front (line_of back), size, len) in
       let rest : chars (drop (q + n) text) ≡ after_line back = ap (λ m. chars (drop m text)) (sym sum) ∙ far.rest in
@@ -180,7 +182,9 @@ module _ (fixed : List Name) (token : List ℕ) (fit : IsFit fixed token) (text 
     where
       at_start : (at : ℕ) → at + bytes_of place.front ≡ at + q
       at_start at = ap (λ m. at + m) size
+
       at_end : (at n : ℕ) → n ≡ bytes_of (line_of place.back) → at + bytes_of place.front + bytes_of (line_of place.back) ≡ at + (q + n)
       at_end at n len = omega (arith, size, len)
+
       line_some : (back : Chars) → begins_with back (chars token) ≡ true → 0 < bytes_of (line_of back)
       line_some back b = symbol_line back (begins_head back (chars token) fit.begins b)

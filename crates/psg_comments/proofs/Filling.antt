@@ -1,8 +1,7 @@
 -- Comments that become spaces one after the other.
-use Rattle.std.proofs.Common.{◌≡◌, ◌≢◌, ◌⊎◌, inl, inr, ℕ, ◌+◌, ◌-◌, ◌<◌, ◌≤◌, Bool, true, false, List, [], ◌∷◌, ◌++◌, length, take, get_or, set, sym, ap, ◌∙◌, subst, refl, arith}
+use Rattle.std.proofs.Common.{◌≡◌, ◌⊎◌, inl, inr, ℕ, ◌+◌, ◌<◌, ◌≤◌, Bool, true, false, List, [], ◌∷◌, ◌++◌, length, take, get_or, set, sym, ap, ◌∙◌, subst, refl, arith}
 use Rattle.std.specs.Prelude.{nat_le, nat_lt, ◌&&◌, ◌||◌}
-use Rattle.std.specs.List.{list_any}
-use Rattle.std.proofs.lemmas.Bool.{and_parts, or_left, or_cases, false≢true, true≢false, cases_lt, lt-ltb, le-ltb, le-leb, lt-leb, ltb-true}
+use Rattle.std.proofs.lemmas.Bool.{and_parts, false≢true, true≢false, cases_lt, lt-ltb, le-leb}
 use Rattle.std.proofs.lemmas.Bool.Decides.{nat_tests}
 use Rattle.std.proofs.lemmas.List.{get_or-set_same, get_or-set_other, length-set, take_more, take_all}
 use Rattle.std.proofs.lemmas.List.Folds.{list_any-append}
@@ -124,6 +123,7 @@ filled_all c at old new f h = record {
         → (at ≤ c.end) ⊎ (at ≡ c.start) → place < at
     reaches place l a b (inl e) n = omega (arith, b, e)
     reaches place l a b (inr e) n = omega (arith, l, e, f.size)
+
     past : (place : ℕ) → c.end ≤ place → (at ≤ c.end) ⊎ (at ≡ c.start) → (c.end ≤ at) ⊎ (length new ≤ at)
         → get_or new place 0 ≡ get_or old place 0
     past place k (inl e) q = f.after place (omega (arith, e, k))

@@ -1,8 +1,8 @@
 -- What begins with a token of comments.
-use Rattle.std.proofs.Common.{◌≡◌, ℕ, ◌<◌, Bool, true, false, List, [], ◌∷◌, ◌++◌, sym, ap, ◌∙◌, subst, refl, arith}
+use Rattle.std.proofs.Common.{◌≡◌, Bool, true, false, [], ◌∷◌, ◌++◌, sym, ap, ◌∙◌, subst, refl}
 use Rattle.std.specs.Prelude.{◌==◌, ◌&&◌}
 use Rattle.std.proofs.lemmas.Bool.{and_parts, eqb-true, false≢true}
-use Rattle.psg_lexis.specs.Classes.{Chars, is_symbol, begins_by, BeginsBy, EndsBy, All}
+use Rattle.psg_lexis.specs.Classes.{Chars, is_symbol, BeginsBy, EndsBy, All}
 use Rattle.psg_comments.specs.Fitting.{begins_with}
 
 pub untrue : (b : Bool) → (b ≡ true → ⊥) → b ≡ false

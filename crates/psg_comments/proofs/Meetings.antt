@@ -1,17 +1,15 @@
 -- Where a token of comments begins no token of the language begins, and the lexer's fault is there.
-use Rattle.std.proofs.Common.{◌≡◌, ◌≢◌, ℕ, ◌+◌, ◌<◌, Bool, true, false, List, [], ◌∷◌, ◌++◌, sym, ap, ◌∙◌, subst, refl, arith}
-use Rattle.std.specs.Prelude.{◌==◌, ◌&&◌, ◌||◌, codes, not, nat_lt, chars, encode_utf8_all, bytes_eq}
+use Rattle.std.proofs.Common.{◌≡◌, ℕ, Bool, true, false, List, [], ◌∷◌, ◌++◌, sym, ap, ◌∙◌, subst, refl}
+use Rattle.std.specs.Prelude.{◌==◌, ◌&&◌, ◌||◌, codes, chars, encode_utf8_all, bytes_eq}
 use Rattle.std.specs.List.{list_any, list_all}
 use Rattle.std.specs.Str.{all_scalars}
 use Rattle.std.specs.Cmp.{first_so, second_so}
-use Rattle.std.proofs.lemmas.Bool.{and_parts, or_left, or_cases, eqb-true, false≢true, true≢false, ltb-true}
-use Rattle.std.proofs.lemmas.Bool.Decides.{nat_tests}
+use Rattle.std.proofs.lemmas.Bool.{eqb-true, false≢true, true≢false}
 use Rattle.std.proofs.lemmas.Slice.Eq.{bytes_eq-Decides}
 use Rattle.std.proofs.lemmas.Str.{chars-encodes}
 use lib.Utf8.{scalar}
 use Rattle.psg_terms.specs.Names.{Name, is_among}
-use Rattle.psg_terms.specs.Words.{IsWord}
-use Rattle.psg_lexis.specs.Classes.{Chars, is_symbol, begins_by, BeginsBy, EndsBy, All, IsLongest}
+use Rattle.psg_lexis.specs.Classes.{Chars, is_symbol, EndsBy, All}
 use Rattle.psg_lexis.specs.Tokens.{dots, IsToken, word, number, text, solo, symbol, hole, more}
 use Rattle.psg_lexis.specs.Faults as broken
 use Rattle.psg_lexis.specs.Faults.{IsFault, HasFault}

@@ -1,10 +1,10 @@
 -- The comments of a text by the first fault of its lexis.
-use Rattle.std.proofs.Common.{◌≡◌, ℕ, ◌+◌, ◌<◌, Bool, true, false, List, [], ◌∷◌, ◌++◌, length, sym, ap, ◌∙◌, subst, refl, append_assoc, arith, length-append}
-use Rattle.std.specs.Prelude.{chars, encode_utf8, encode_utf8_all}
+use Rattle.std.proofs.Common.{◌≡◌, ℕ, ◌+◌, true, false, List, [], ◌∷◌, ◌++◌, length, sym, ap, ◌∙◌, subst, refl, append_assoc, arith, length-append}
+use Rattle.std.specs.Prelude.{chars, encode_utf8_all}
 use Rattle.std.proofs.lemmas.Bool.{false≢true, true≢false}
 use Rattle.std.proofs.lemmas.Str.{encodes-append, encode_ascii}
 use Rattle.psg_terms.specs.Names.{Name}
-use Rattle.psg_lexis.specs.Classes.{Chars, is_symbol, is_blank}
+use Rattle.psg_lexis.specs.Classes.{Chars, is_blank}
 use Rattle.psg_lexis.specs.Tokens as spec
 use Rattle.psg_lexis.specs.Tokens.{bytes_of, quoted, HasTokens}
 use Rattle.psg_lexis.specs.Faults as broken
@@ -14,7 +14,7 @@ use Rattle.psg_lexis.specs.declared.token.LexFault.{LexFault}
 use Rattle.psg_lexis.specs.declared.token.LexFault.TheVariants as faults
 use Rattle.psg_lexis.proofs.Walk.{blank-small}
 use Rattle.psg_comments.specs.Fitting.{begins_with, IsFit}
-use Rattle.psg_comments.specs.Finding.{HasComments, nothing, blank, comment, token_there, no_token}
+use Rattle.psg_comments.specs.Finding.{HasComments, nothing, blank, token_there, no_token}
 use Rattle.psg_comments.specs.declared.finding.Comment.{Comment}
 use Rattle.psg_comments.proofs.Fronts.{untrue, begins_head}
 use Rattle.psg_comments.proofs.Meetings.{no_comment_at_token, fault_is_there}

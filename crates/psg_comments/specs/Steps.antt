@@ -1,5 +1,5 @@
 -- What the calls of this crate find step by step.
-use Rattle.std.specs.Prelude.{ℕ, ◌≡◌, ◌+◌, ◌<◌, ◌≤◌, ◌⊎◌, Option, Some, None, List, [], ◌∷◌, length, drop, get_or, chars}
+use Rattle.std.specs.Prelude.{ℕ, ◌≡◌, ◌+◌, ◌<◌, ◌≤◌, Option, Some, None, List, [], ◌∷◌, length, drop, get_or, chars}
 use Rattle.std.specs.Str.{IsUtf8, IsCharBoundary}
 use Rattle.psg_terms.specs.Names.{Name}
 use Rattle.psg_lexis.specs.Classes.{Chars}

@@ -45,17 +45,14 @@ with_named-more n (Some t) xs ys = refl
 
 named-push : (n : ℕ) (xs : List (List ℕ)) (l : List ℕ)
     → named_from n (xs ++ l ∷ []) ≡ named_from n xs ++ named_from (n + length xs) (l ∷ [])
-named-push n [] l = ap (λ m. with_named m (token_of l) []) (zero_more n)
-  where
-    zero_more : (k : ℕ) → k ≡ k + 0
-    zero_more k = omega arith
+named-push n [] l =
+    let e : n ≡ n + 0 = omega arith in
+    ap (λ m. named_from m (l ∷ [])) e
 named-push n (x ∷ xs) l =
+    let e : n + 1 + length xs ≡ n + length (x ∷ xs) = omega arith in
     ap (with_named n (token_of x)) (named-push (n + 1) xs l)
     ∙ with_named-more n (token_of x) (named_from (n + 1) xs) (named_from (n + 1 + length xs) (l ∷ []))
-    ∙ ap (λ m. named_from n (x ∷ xs) ++ named_from m (l ∷ [])) (one_more n (length xs))
-  where
-    one_more : (k m : ℕ) → k + 1 + m ≡ k + (1 + m)
-    one_more k m = omega arith
+    ∙ ap (λ m. named_from n (x ∷ xs) ++ named_from m (l ∷ [])) e
 
 pub no_lines : (bytes : List ℕ) (named : List Named) → bytes ≡ [] ++ (codes "psg 2" ++ (13 ∷ 10 ∷ [])) → named ≡ []
     → ArePlain [] bytes named

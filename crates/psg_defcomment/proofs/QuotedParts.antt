@@ -1,6 +1,6 @@
 -- Quoted texts by the tokens of a part.
-use Rattle.std.proofs.Common.{◌≡◌, ◌≢◌, inl, inr, ℕ, ◌+◌, ◌<◌, ◌≤◌, Bool, true, false, List, [], ◌∷◌, ◌++◌, length, append-nil, sym, ap, ◌∙◌, subst, refl, arith, length-append}
-use Rattle.std.specs.Prelude.{◌==◌, chars, encode_utf8_all, nat_le, cond, Option, Some, None, MatchOption}
+use Rattle.std.proofs.Common.{◌≡◌, ◌≢◌, inl, inr, ℕ, ◌+◌, ◌<◌, ◌≤◌, Bool, true, false, List, [], ◌∷◌, ◌++◌, length, take, drop, codes, append-nil, sym, ap, ◌∙◌, subst, refl, arith, length-append}
+use Rattle.std.specs.Prelude.{◌==◌, bytes_eq, chars, encode_utf8_all, nat_le, cond, Option, Some, None, MatchOption}
 use Rattle.std.specs.Str.{IsUtf8, is_utf8}
 use Rattle.std.proofs.lemmas.Bool.{false≢true, eqb-true, le-leb, leb-true}
 use Rattle.std.proofs.lemmas.Str.{encodes-chars, encodes-append, encode_ascii, length-le-encodes, IsUtf8-from_is_utf8, is_utf8-from_IsUtf8}
@@ -11,7 +11,7 @@ use Rattle.psg_lexis.specs.declared.token.Token.{Token}
 use Rattle.psg_lexis.specs.declared.token.Token.TheVariants as tokens
 use Rattle.psg_lexis.specs.declared.token.Spanned.{Spanned}
 use Rattle.psg_deflines.specs.Quotes.{IsTextAlone, HasNoTextAlone}
-use Rattle.psg_defcomment.specs.Naming.{contents, quoted_by, quoted_in, short}
+use Rattle.psg_defcomment.specs.Naming.{contents, past_spaces, quoted_by, quoted_in, short, token_of}
 use Rattle.psg_defcomment.proofs.Contents.{contents_written, contents_read, IsWrittenAs}
 
 -- ---- one token that takes all
@@ -130,3 +130,13 @@ none_of_tokens part fixed found u whole none =
 pub none_of_fault : (part : List ℕ) (fixed : List Name) (P : Type 0) → IsUtf8 part → P
     → ((ts : List Spanned) → HasTokens fixed (chars part) 0 ts → P → ⊥) → quoted_in part ≡ None
 none_of_fault part fixed P u p whole = none_unless part u (λ w t. whole (t.token ∷ []) (t.tokens fixed) p)
+
+-- ---- the line
+
+pub token_none : (line : List ℕ) → bytes_eq (take 7 line) (codes "comment") ≡ false → token_of line ≡ None
+token_none line e = ap (λ b. cond b (quoted_in (past_spaces (drop 7 line))) None) e
+
+pub token_is : (line behind part : List ℕ) → bytes_eq (take 7 line) (codes "comment") ≡ true → behind ≡ drop 7 line
+    → part ≡ past_spaces behind → quoted_in part ≡ token_of line
+token_is line behind part e b p =
+    ap quoted_in (p ∙ ap past_spaces b) ∙ ap (λ c. cond c (quoted_in (past_spaces (drop 7 line))) None) (sym e)

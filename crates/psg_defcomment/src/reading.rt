@@ -1,5 +1,5 @@
 //! Definitions with the token of their comments, from their bytes.
-ghost use Rattle.std.specs.Prelude.{ℕ, ◌≡◌, ◌<◌, ◌^◌, ◌↔◌, ⊥, List, Option, IfOk, IfErr, IsTrue, MatchOption, length};
+ghost use Rattle.std.specs.Prelude.{ℕ, ◌≡◌, ◌<◌, ◌^◌, ◌↔◌, List, Option, IfOk, IfErr, IsTrue, MatchOption, length};
 ghost use Rattle.std.specs.List.{AllByRecursion};
 ghost use Rattle.psg_deflines.specs.declared.fault.DefFault.{DefFault as PlainFault};
 ghost use Rattle.psg_lexis.specs.Tokens.{IsFixedWord};

@@ -1,5 +1,4 @@
-use Rattle.std.proofs.Common.{ℕ, ◌≡◌, ◌<◌, ◌≤◌, ◌⊎◌, ◌-◌, length, get_or}
-use Rattle.psg_comments.specs.Steps.{IsFilled}
+use Rattle.std.proofs.Common.{◌-◌}
 use Rattle.psg_comments.proofs.Filling.{IsFilledTo}
 use Rattle.psg_comments.proofs.blanking.fill.Given as goal
 

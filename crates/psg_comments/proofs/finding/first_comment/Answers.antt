@@ -16,4 +16,4 @@ comment_at-requires c = record {
 pub returns-in_default : goal.returns-in_default
 returns-in_default c =
     none_with_fault c.args.lexis.now c.args.token.now c.requires.fit c.args.text.now c.in-Err.fault c.in-Err.ensures.err
-        c.in_default.not-Memory c.in_default.not-BadRun
+    c.in_default.not-Memory c.in_default.not-BadRun

@@ -1,4 +1,4 @@
-use Rattle.std.proofs.Common.{◌≡◌, ◌≤◌, ◌+◌, ◌-◌, chars, length}
+use Rattle.std.proofs.Common.{◌≡◌, ◌≤◌, ◌+◌, chars, length}
 use denote.Text.{Utf8}
 use denote.Shadow.{shadow}
 use Rattle.psg_lexis.specs.Tokens.{bytes_of}
