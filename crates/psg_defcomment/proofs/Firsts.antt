@@ -38,8 +38,8 @@ same_second (first ∷ second ∷ rest) a b s t = s ∙ sym t
 
 pub fault_before : (bytes : List ℕ) (named : List Named) (fault : DefFault) (line : ℕ) → named ≡ named_in bytes
     → Refusal (plain_of bytes) fault → IsSecond named line → (IsLater line fault → ⊥) → FileRefusal bytes (faults.Definition fault)
-fault_before bytes named fault line e r s no =
-    of_definition fault r (λ other t l. no (subst (λ n. IsLater n fault)
+fault_before bytes named fault line e r s never =
+    of_definition fault r (λ other t l. never (subst (λ n. IsLater n fault)
     (same_second named other line (subst (λ ns. IsSecond ns other) (sym e) t) s) l))
 
 pub second_before : (bytes : List ℕ) (named : List Named) (fault : DefFault) (line : ℕ) → named ≡ named_in bytes
@@ -51,11 +51,11 @@ pub second_alone : (bytes : List ℕ) (named : List Named) (line : ℕ) (def : D
 second_alone bytes named line def e r s = named_twice line (subst (λ ns. IsSecond ns line) e s) r.faultless
 
 -- one line alone
-pub only_one : (named : List Named) (d : Named) → 0 < length named → ((line : ℕ) → IsSecond named line → ⊥)
-    → named ≡ get_or named 0 d ∷ []
-only_one [] d l none = absurd (omega (arith, l))
-only_one (first ∷ []) d l none = refl
-only_one (first ∷ second ∷ rest) d l none = absurd (none second.line refl)
+pub only_one : (named : List Named) (first : Named) (rest : List Named) → named ≡ first ∷ rest
+    → ((line : ℕ) → IsSecond named line → ⊥) → named ≡ first ∷ []
+only_one named first [] e none = e
+only_one named first (second ∷ rest) e none =
+    absurd (none second.line (subst (λ ns. IsSecond ns second.line) (sym e) refl))
 
 pub unfit_fault : (bytes : List ℕ) (named : List Named) (first : Named) (def : Definition) (fault : FileFault)
     → named ≡ named_in bytes → IsReadAs (plain_of bytes) def → named ≡ first ∷ [] → IsUnfit (fixed_words def) first fault

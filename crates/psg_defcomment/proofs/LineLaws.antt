@@ -1,5 +1,5 @@
 -- A file of version 3 line by line.
-use Rattle.std.proofs.Common.{◌≡◌, ℕ, ◌+◌, ◌<◌, Bool, true, false, List, [], ◌∷◌, ◌++◌, length, take, map, get_or, codes, append_assoc, append-nil, sym, ap, ◌∙◌, subst, refl, arith}
+use Rattle.std.proofs.Common.{◌≡◌, ℕ, ◌+◌, ◌<◌, Bool, true, false, List, [], ◌∷◌, ◌++◌, length, take, map, get_or, Result, Ok, Err, IfOk, codes, append_assoc, append-nil, sym, ap, ◌∙◌, subst, refl, arith}
 use Rattle.std.specs.Prelude.{◌&&◌, cond, Option, Some, None, IsUtf8}
 use Rattle.std.specs.Str.{is_utf8}
 use Rattle.std.specs.Str.Lines.{lines}
@@ -116,14 +116,24 @@ pub no_head_named : (text : List ℕ) (ls : List (List ℕ)) → IsUtf8 text →
 no_head_named text ls u e h = other_named text (third_by text ls false (is_utf8-from_IsUtf8 text u) e h)
 
 no_utf8_third : (bytes : List ℕ) → (IsUtf8 bytes → ⊥) → is_third bytes ≡ false
-no_utf8_third bytes no = by (is_utf8 bytes) refl
+no_utf8_third bytes never = by (is_utf8 bytes) refl
   where
     by : (b : Bool) → is_utf8 bytes ≡ b → (b && has_head (lines bytes)) ≡ false
-    by true e = absurd (no (IsUtf8-from_is_utf8 bytes e))
+    by true e = absurd (never (IsUtf8-from_is_utf8 bytes e))
     by false e = refl
 
 pub no_utf8_bytes : (bytes : List ℕ) → (IsUtf8 bytes → ⊥) → bytes ≡ plain_of bytes
-no_utf8_bytes bytes no = other_bytes bytes (no_utf8_third bytes no)
+no_utf8_bytes bytes never = other_bytes bytes (no_utf8_third bytes never)
 
 pub no_utf8_named : (bytes : List ℕ) → (IsUtf8 bytes → ⊥) → [] ≡ named_in bytes
-no_utf8_named bytes no = other_named bytes (no_utf8_third bytes no)
+no_utf8_named bytes never = other_named bytes (no_utf8_third bytes never)
+
+pub map_ok : {X Y : Type 0} {P Q : X → Type 0} (r : Result X Y) → ((x : X) → P x → Q x) → IfOk r P → IfOk r Q
+map_ok (Ok x) f h = f x h
+map_ok (Err y) f h = tt
+
+-- the lines of a text, of which the first is seen by itself
+pub lines_split : (text : List ℕ) (items seen : List (Bor (List ℕ))) (head : Bor (List ℕ)) (rest : List (Bor (List ℕ)))
+    → map (λ (b : Bor (List ℕ)). b.now) items ≡ lines text → seen ≡ items → seen ≡ head ∷ rest
+    → lines text ≡ head.now ∷ map (λ (b : Bor (List ℕ)). b.now) rest
+lines_split text items seen head rest e v c = sym e ∙ ap (map (λ (b : Bor (List ℕ)). b.now)) (sym v ∙ c)

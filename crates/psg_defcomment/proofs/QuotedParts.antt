@@ -95,24 +95,24 @@ has_token part (c ∷ cs) w u e h = by (c == 34) refl h
 -- ---- what the tokens of the part tell
 
 utf8_false : (part : List ℕ) → (IsUtf8 part → ⊥) → is_utf8 part ≡ false
-utf8_false part no = by (is_utf8 part) refl
+utf8_false part never = by (is_utf8 part) refl
   where
     by : (b : Bool) → is_utf8 part ≡ b → b ≡ false
-    by true e = absurd (no (IsUtf8-from_is_utf8 part e))
+    by true e = absurd (never (IsUtf8-from_is_utf8 part e))
     by false e = refl
 
 pub none_of_bytes : (part : List ℕ) → (IsUtf8 part → ⊥) → quoted_in part ≡ None
-none_of_bytes part no = ap (λ b. cond b (quoted_by (chars part)) None) (utf8_false part no)
+none_of_bytes part never = ap (λ b. cond b (quoted_by (chars part)) None) (utf8_false part never)
 
 of_text : (part : List ℕ) → IsUtf8 part → quoted_in part ≡ quoted_by (chars part)
 of_text part u = ap (λ b. cond b (quoted_by (chars part)) None) (is_utf8-from_IsUtf8 part u)
 
 none_unless : (part : List ℕ) → IsUtf8 part → ((w : Name) → HasTextToken part w → ⊥) → quoted_in part ≡ None
-none_unless part u no = of_text part u ∙ by (quoted_by (chars part)) refl
+none_unless part u never = of_text part u ∙ by (quoted_by (chars part)) refl
   where
     by : (o : Option Name) → quoted_by (chars part) ≡ o → o ≡ None
     by None e = refl
-    by (Some w) e = absurd (no w (has_token part (chars part) w u refl e))
+    by (Some w) e = absurd (never w (has_token part (chars part) w u refl e))
 
 pub quoted_is : (part : List ℕ) (fixed : List Name) (found : List Spanned) (w : Name) → IsUtf8 part
     → HasTokens fixed (chars part) 0 found → IsTextAlone found (length part) w → quoted_in part ≡ Some w

@@ -116,7 +116,7 @@ fn token_in(
     if let Some(line) = second_line(named) {
         return Err(FileFault::Repeated(line));
     }
-    let Some(first) = named.first() else {
+    let Some((first, _)) = named.split_first() else {
         return Ok(None);
     };
     let token = fitting(alloc, definition, first)?;
