@@ -78,7 +78,7 @@ pub line_next : (ls : List (Bor (List ℕ))) (i : ℕ) (d : Bor (List ℕ)) (num
     → ArePlain (map (λ l. l.now) (take (i + 1) ls)) bytes' named'
 line_next ls i d number bytes bytes' named named' l e p a =
     let xs = map (λ (b : Bor (List ℕ)). b.now) (take i ls) in
-    let size : length xs ≡ i = length-map (λ (b : Bor (List ℕ)). b.now) (take i ls) ∙ length-take-le i ls (omega (arith, l)) in
+    let size : length xs ≡ i = length-map (take i ls) (λ (b : Bor (List ℕ)). b.now) ∙ length-take-le i ls (omega (arith, l)) in
     subst (λ ys. ArePlain ys bytes' named')
     (sym (ap (map (λ (b : Bor (List ℕ)). b.now)) (take_more ls i d l) ∙ map-append (λ (b : Bor (List ℕ)). b.now) (take i ls) (get_or ls i d ∷ [])))
     (line_more xs (get_or ls i d).now number bytes bytes' named named' (e ∙ ap (λ n. n + 2) (sym size)) p a)
