@@ -1,7 +1,7 @@
 -- The contents of a quoted text are written and read.
-use Rattle.std.proofs.Common.{◌≡◌, ◌⊎◌, inl, inr, ℕ, Bool, true, false, List, [], ◌∷◌, ◌++◌, append_assoc, sym, ap, ◌∙◌, subst, refl}
+use Rattle.std.proofs.Common.{◌≡◌, inl, inr, ℕ, Bool, true, false, [], ◌∷◌, ◌++◌, append_assoc, sym, ap, ◌∙◌, subst, refl}
 use Rattle.std.specs.Prelude.{◌==◌, ◌&&◌, ◌||◌, not, cond, Option, Some, None, option_map}
-use Rattle.std.proofs.lemmas.Bool.{and_parts, or_cases, eqb-true, false≢true, true≢false}
+use Rattle.std.proofs.lemmas.Bool.{and_parts, false≢true}
 use Rattle.std.proofs.lemmas.Bool.Decides.{eqb_tells}
 use Rattle.psg_lexis.specs.Classes.{Chars, All, is_escape}
 use Rattle.psg_lexis.specs.Tokens.{is_content, escaped, quoted}
@@ -110,6 +110,7 @@ contents_read false (c ∷ cs) w h = by h (contents_read true cs) (contents_read
         let none : [] ≡ w = cc in
         subst (IsWrittenAs (c ∷ [])) none (record { text_is = ap (λ d. d ∷ []) e; contents = tt })
     end (d ∷ ds) k e = no_contents w k
+
     as_it_is : (b : Bool) → is_plain c ≡ b → (c == 34) ≡ false → (c == 92) ≡ false
         → cond b (option_map (λ v. c ∷ v) (contents false cs)) None ≡ Some w
         → ((v : Chars) → contents false cs ≡ Some v → IsWrittenAs cs v) → IsWrittenAs (c ∷ cs) w
@@ -117,6 +118,7 @@ contents_read false (c ∷ cs) w h = by h (contents_read true cs) (contents_read
         let r = plain_content c i in
         one_more (c ∷ cs) cs c w (contents false cs) (ap (λ xs. xs ++ cs) (sym (escaped_plain c p q r.1))) r.0 later k
     as_it_is false i p q k later = no_contents w k
+
     by : contents false (c ∷ cs) ≡ Some w → ((v : Chars) → contents true cs ≡ Some v → IsWrittenAs (92 ∷ cs) v)
         → ((v : Chars) → contents false cs ≡ Some v → IsWrittenAs cs v) → IsWrittenAs (c ∷ cs) w
     by k after_backslash later =

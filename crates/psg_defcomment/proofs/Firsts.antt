@@ -1,13 +1,11 @@
 -- Which fault of a file is its first one.
-use Rattle.std.proofs.Common.{◌≡◌, ℕ, ◌<◌, ◌≤◌, Bool, true, false, List, [], ◌∷◌, length, get_or, Option, Some, None, inl, inr, sym, ap, ◌∙◌, subst, refl, arith}
+use Rattle.std.proofs.Common.{◌≡◌, ℕ, ◌<◌, ◌≤◌, List, [], ◌∷◌, length, get_or, Option, Some, None, sym, ap, ◌∙◌, subst, refl, arith}
 use Rattle.psg_terms.specs.Names.{Name}
 use Rattle.psg_grammar.specs.WellFormed.{fixed_words}
 use Rattle.psg_grammar.specs.declared.types.Definition.{Definition}
 use Rattle.psg_deflines.specs.declared.fault.DefFault.{DefFault}
-use Rattle.psg_deflines.specs.declared.fault.ReadFault.{ReadFault}
-use Rattle.psg_deflines.specs.declared.fault.ReadFault.TheVariants as reads
-use Rattle.psg_defread.specs.Reading.{IsFaultless, IsReadAs}
-use Rattle.psg_defread.specs.Refusals.{IsReadFault, Refusal}
+use Rattle.psg_defread.specs.Reading.{IsReadAs}
+use Rattle.psg_defread.specs.Refusals.{Refusal}
 use Rattle.psg_comments.specs.Fitting.{IsFit}
 use Rattle.psg_defcomment.specs.Plain.{named_in, plain_of}
 use Rattle.psg_defcomment.specs.Reading.{AreFit, IsCommentOf, first_token}

@@ -1,18 +1,18 @@
 -- Quoted texts by the tokens of a part.
-use Rattle.std.proofs.Common.{◌≡◌, ◌≢◌, inl, inr, ℕ, ◌+◌, ◌<◌, ◌≤◌, Bool, true, false, List, [], ◌∷◌, ◌++◌, length, take, drop, codes, append-nil, sym, ap, ◌∙◌, subst, refl, arith, length-append}
-use Rattle.std.specs.Prelude.{◌==◌, bytes_eq, chars, encode_utf8_all, nat_le, cond, Option, Some, None, MatchOption}
+use Rattle.std.proofs.Common.{◌≡◌, ℕ, ◌+◌, ◌≤◌, Bool, true, false, List, [], ◌∷◌, ◌++◌, length, take, drop, codes, append-nil, sym, ap, ◌∙◌, subst, refl, arith, length-append}
+use Rattle.std.specs.Prelude.{◌==◌, bytes_eq, chars, encode_utf8_all, nat_le, cond, Option, Some, None}
 use Rattle.std.specs.Str.{IsUtf8, is_utf8}
-use Rattle.std.proofs.lemmas.Bool.{false≢true, eqb-true, le-leb, leb-true}
-use Rattle.std.proofs.lemmas.Str.{encodes-chars, encodes-append, encode_ascii, length-le-encodes, IsUtf8-from_is_utf8, is_utf8-from_IsUtf8}
+use Rattle.std.proofs.lemmas.Bool.{eqb-true, le-leb, leb-true}
+use Rattle.std.proofs.lemmas.Str.{encodes-chars, encodes-append, length-le-encodes, IsUtf8-from_is_utf8, is_utf8-from_IsUtf8}
 use Rattle.psg_terms.specs.Names.{Name}
-use Rattle.psg_lexis.specs.Classes.{Chars, All, is_blank}
+use Rattle.psg_lexis.specs.Classes.{Chars, All}
 use Rattle.psg_lexis.specs.Tokens.{bytes_of, is_content, quoted, IsToken, word, number, text, solo, symbol, hole, more, HasTokens, nothing, blank, next}
 use Rattle.psg_lexis.specs.declared.token.Token.{Token}
 use Rattle.psg_lexis.specs.declared.token.Token.TheVariants as tokens
 use Rattle.psg_lexis.specs.declared.token.Spanned.{Spanned}
 use Rattle.psg_deflines.specs.Quotes.{IsTextAlone, HasNoTextAlone}
 use Rattle.psg_defcomment.specs.Naming.{contents, past_spaces, quoted_by, quoted_in, short, token_of}
-use Rattle.psg_defcomment.proofs.Contents.{contents_written, contents_read, IsWrittenAs}
+use Rattle.psg_defcomment.proofs.Contents.{contents_written, contents_read}
 
 -- ---- one token that takes all
 
@@ -30,7 +30,7 @@ whole_token : (fixed : List Name) (cs : Chars) (at : ℕ) (s : Spanned) → HasT
 whole_token fixed _ _ s (blank c cs at _ h k) e f = absurd (omega (arith, e, starts_later fixed cs (at + 1) s [] k))
 whole_token fixed _ _ s (next all at _ _ b k) e f =
     let size : bytes_of all ≡ bytes_of b.front + bytes_of b.rest =
-        ap bytes_of b.whole ∙ ap length (encodes-append b.front b.rest) ∙ length-append (encode_utf8_all b.front) (encode_utf8_all b.rest) in
+    ap bytes_of b.whole ∙ ap length (encodes-append b.front b.rest) ∙ length-append (encode_utf8_all b.front) (encode_utf8_all b.rest) in
     let none : b.rest ≡ [] = no_bytes b.rest (omega (arith, b.ends, f, size)) in
     let all_is : b.front ≡ all = sym (b.whole ∙ ap (λ r. b.front ++ r) none ∙ append-nil b.front) in
     subst (λ xs. IsToken fixed xs [] s.token) all_is (subst (λ r. IsToken fixed b.front r s.token) none b.token)
@@ -80,13 +80,13 @@ has_token part (c ∷ cs) w u e h = by (c == 34) refl h
         record {
           token = s;
           tokens = λ fixed. next (chars part) 0 s [] (record {
-              front = chars part;
-              rest = [];
-              whole = sym (append-nil (chars part));
-              token = subst (λ ds. IsToken fixed ds [] t) all_is
-                  (subst (λ v. IsToken fixed (34 ∷ cs) [] (tokens.Text v)) r.1.3 (text r.0 cs [] r.1.0 r.1.1 r.1.2));
-              starts = refl;
-              ends = refl;
+            front = chars part;
+            rest = [];
+            whole = sym (append-nil (chars part));
+            token = subst (λ ds. IsToken fixed ds [] t) all_is
+                (subst (λ v. IsToken fixed (34 ∷ cs) [] (tokens.Text v)) r.1.3 (text r.0 cs [] r.1.0 r.1.1 r.1.2));
+            starts = refl;
+            ends = refl;
           }) (nothing (0 + bytes_of (chars part)));
           alone = record { token = s; only = refl; starts = refl; ends = omega (arith, ap length (encodes-chars part u)); kind = refl };
         }

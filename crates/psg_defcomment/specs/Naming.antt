@@ -1,5 +1,5 @@
 -- The line that names the token of comments: `comment` and a quoted text.
-use Rattle.std.specs.Prelude.{ℕ, ◌≤◌, ◌==◌, ◌&&◌, nat_le, not, Bool, true, false, cond, Option, Some, None, option_map}
+use Rattle.std.specs.Prelude.{ℕ, ◌==◌, ◌&&◌, nat_le, not, Bool, true, false, cond, Option, Some, None, option_map}
 use Rattle.std.specs.Prelude.{List, [], ◌∷◌, length, take, drop, codes, chars, encode_utf8_all, bytes_eq}
 use Rattle.std.specs.Str.{is_utf8}
 use Rattle.psg_terms.specs.Names.{Name}

@@ -1,5 +1,5 @@
 -- What it means that bytes are a definition, and which token begins its comments.
-use Rattle.std.specs.Prelude.{ℕ, ◌≡◌, Option, Some, None, List, [], ◌∷◌}
+use Rattle.std.specs.Prelude.{ℕ, Option, Some, None, List, [], ◌∷◌}
 use Rattle.psg_terms.specs.Names.{Name}
 use Rattle.psg_grammar.specs.WellFormed.{fixed_words}
 use Rattle.psg_grammar.specs.declared.types.Definition.{Definition}

@@ -1,6 +1,5 @@
 -- What the calls of this crate add line by line.
-use Rattle.std.specs.Prelude.{ℕ, ◌≡◌, ◌+◌, List, [], ◌∷◌, ◌++◌, codes, map}
-use Rattle.psg_defcomment.specs.Naming.{token_of}
+use Rattle.std.specs.Prelude.{ℕ, ◌≡◌, List, [], ◌∷◌, ◌++◌, codes, map}
 use Rattle.psg_defcomment.specs.Plain.{joined, named_from, plain_line}
 use Rattle.psg_defcomment.specs.declared.lines.Named.{Named}
 

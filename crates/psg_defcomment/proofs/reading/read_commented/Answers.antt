@@ -2,7 +2,7 @@ use Rattle.std.proofs.Common.{◌≡◌, sym, ◌∙◌, subst}
 use Rattle.std.proofs.lemmas.Result.{err_from_is_err_and}
 use Rattle.psg_grammar.specs.WellFormed.{fixed_words}
 use Rattle.psg_defread.specs.Reading.{IsFaultless, Spells}
-use Rattle.psg_defcomment.specs.Plain.{named_in, plain_of}
+use Rattle.psg_defcomment.specs.Plain.{plain_of}
 use Rattle.psg_defcomment.specs.Reading.{AreFit}
 use Rattle.psg_defcomment.proofs.reading.read_commented.Goals as goal
 
