@@ -67,8 +67,8 @@ refused_by bytes def _ a (named_twice line s r) = two (named_in bytes) a.fit s
     two [] f i = i
     two (first ∷ []) f i = i
     two (first ∷ second ∷ rest) f i = f
-refused_by bytes def _ a (unfit named other e read no) =
-    no (subst (λ (d : Definition). IsFit (fixed_words d) named.token) (sym (a.only other read.spells))
+refused_by bytes def _ a (unfit named other e read never) =
+    never (subst (λ (d : Definition). IsFit (fixed_words d) named.token) (sym (a.only other read.spells))
     (subst (AreFit (fixed_words def)) e a.fit))
 
 pub not_refused : (bytes line : List ℕ) (def : Definition) → IsAccepted bytes def → IsFileRefusalLine bytes line → ⊥

@@ -60,11 +60,23 @@ const FILES: &[(&str, &str)] = &[
     ("psg 3\ncomment \"//\"\r", "line 2 code 2"),
     ("psg 3\ncomment \"\\/\"\n", "line 2 code 2"),
     ("psg 3\ncomment \"//\"\ncomment \"#\"\n", "line 3 code 4"),
-    ("psg 3\ncomment \"//\"\nentity T\ncomment \"#\"\n", "line 3 code 2"),
-    ("psg 3\ncomment \"//\"\nsort T = a b\nsort T = c\ncomment \"#\"\n", "line 4 code 4"),
-    ("psg 3\ncomment \"//\"\ncomment \"#\"\nsort T = a b\nsort T = c\n", "line 3 code 4"),
+    (
+        "psg 3\ncomment \"//\"\nentity T\ncomment \"#\"\n",
+        "line 3 code 2",
+    ),
+    (
+        "psg 3\ncomment \"//\"\nsort T = a b\nsort T = c\ncomment \"#\"\n",
+        "line 4 code 4",
+    ),
+    (
+        "psg 3\ncomment \"//\"\ncomment \"#\"\nsort T = a b\nsort T = c\n",
+        "line 3 code 4",
+    ),
     ("psg 3\ncomment \"rem\"\nsort T = a b\n", "line 2 code 14"),
-    ("psg 3\ncomment \"rem\"\nsort T = a b\nsort T = c\n", "line 4 code 4"),
+    (
+        "psg 3\ncomment \"rem\"\nsort T = a b\nsort T = c\n",
+        "line 4 code 4",
+    ),
     ("psg 3\r", "line 1 code 3"),
     ("psg 4\n", "line 1 code 3"),
 ];

@@ -1,4 +1,4 @@
-use Rattle.std.proofs.Common.{rules, ◌≡◌, refl}
+use Rattle.std.proofs.Common.{rules, ◌≡◌, ℕ, List, refl}
 use Rattle.psg_defcomment.specs.Refusals.{FileRefusal, IsFileFault, file_fault_text}
 use Rattle.psg_defcomment.specs.declared.fault.FileFault.{FileFault}
 use Rattle.psg_defcomment.specs.declared.fault.FileFault.TheVariants as faults
@@ -12,10 +12,10 @@ pub returns-in_default-file_fault_text : goal.returns-in_default-file_fault_text
 returns-in_default-file_fault_text g c = λ bytes files input ticks is. no_room_for_definition refl
 
 told : (bytes : List ℕ) (fault : FileFault) → IsFileFault bytes fault → (fault ≡ faults.Memory → ⊥) → FileRefusal bytes fault
-told bytes faults.Memory is no = absurd (no refl)
-told bytes (faults.Definition fault) is no = is
-told bytes (faults.Repeated line) is no = is
-told bytes (faults.Unfit line) is no = is
+told bytes faults.Memory is never = absurd (never refl)
+told bytes (faults.Definition fault) is never = is
+told bytes (faults.Repeated line) is never = is
+told bytes (faults.Unfit line) is never = is
 
 pub returns : goal.returns
 returns g c = λ bytes files input ticks is.
