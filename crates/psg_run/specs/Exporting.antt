@@ -17,16 +17,16 @@ use Rattle.psg_run.specs.declared.status.Status.{Status}
 use Rattle.psg_run.specs.declared.status.Status.TheVariants as ends_with
 use Rattle.psg_run.specs.Chain.{IsPlayed, Point}
 use Rattle.psg_run.specs.Editing.{BreaksOff, Editor, IsSilent, new_editor}
-use Rattle.psg_run.specs.Reading.{IsAccepted, IsRefusalLine}
+use Rattle.psg_run.specs.Reading.{IsPlainlyAccepted, IsRefusalLine}
 use Rattle.psg_run.specs.Worlds.{Act, Puts, World}
 
 -- the bytes are read as the definition, and they spell no other one
 abbrev pub IsReadOnlyAs : List ℕ → Definition → Type 0
 IsReadOnlyAs bytes def = IsReadAs bytes def × ((other : Definition) → Spells bytes other → other ≡ def)
 
--- the line that `check` writes for a file of these bytes
+-- the line that `check` writes for a file of these bytes, where it names no token of comments
 pub data IsCheckLine (bytes line : List ℕ) : Type 0 where
-  is_good : (def : Definition) → IsAccepted bytes def → line ≡ codes "accepted" → IsCheckLine bytes line
+  is_good : (def : Definition) → IsPlainlyAccepted bytes def → line ≡ codes "accepted" → IsCheckLine bytes line
   is_faulty : IsRefusalLine bytes line → IsCheckLine bytes line
 
 module _ (def : Definition) (file : Name) where

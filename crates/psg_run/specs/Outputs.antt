@@ -36,6 +36,9 @@ use Rattle.psg_run.specs.Live.{IsRepliedLive, heard, with_input}
 use Rattle.psg_run.specs.Formatting.{most_program_bytes}
 use Rattle.psg_run.specs.Promise.{Form, IsRunOf, check, edit, live, windows, gen, layout, itself, format, check_format}
 use Rattle.psg_run.specs.Promise.{explain, framed, lint}
+use Rattle.psg_run.specs.Without.{IsWithout}
+use Rattle.psg_grammar.specs.WellFormed.{fixed_words}
+use Rattle.psg_defcomment.specs.Reading.{comment_of}
 use Rattle.psg_run.specs.Reading.{IsAccepted, most_definition_bytes, most_script_bytes}
 use Rattle.psg_run.specs.Worlds.{IsFrontOf, World, with_failed_read}
 
@@ -182,12 +185,13 @@ pub record HasProgram (world : World) (definition name program : Name) (checks :
   pub right : (def : Definition) → IsAccepted (bytes_of held definition) def
       → IsRight def name (bytes_of held program) checks
 
--- The name is that of a kind of which a program may be, and no report of the bytes has an error.
-pub record IsFaultless (def : Definition) (name : Name) (bytes : List ℕ) : Type 0 where
+-- The name is that of a kind of which a program may be, and no report of the bytes without their comments has an error.
+pub record IsFaultless (def : Definition) (comment : Option Name) (name : Name) (bytes : List ℕ) : Type 0 where
   pub some_kind : ((kind : Kind) → kind_name_of def kind ≡ Some name → ⊥) → ⊥
   pub quiet : (kind : Kind) → kind_name_of def kind ≡ Some name → IsDeclaringPhylum def kind → ⊥
-  pub faultless : (kind : Kind) → kind_name_of def kind ≡ Some name → (text : List ℕ) (limited : Bool)
-      (found : List Finding) (more : Bool) → IsReport def kind bytes text limited found more → has_error found ≡ false
+  pub faultless : (kind : Kind) → kind_name_of def kind ≡ Some name → (own : List ℕ)
+      → IsWithout (fixed_words def) comment bytes own → (text : List ℕ) (limited : Bool) (found : List Finding)
+      (more : Bool) → IsReport def kind own text limited found more → has_error found ≡ false
 
 -- the file of a program is known, short enough, and without errors for the definition that the other file holds
 pub record HasFaultless (world : World) (definition name program : Name) : Type 0 where
@@ -195,7 +199,7 @@ pub record HasFaultless (world : World) (definition name program : Name) : Type 
   pub known : world.files.held ≡ Some held
   pub short : length (bytes_of held program) ≤ most_program_bytes
   pub right : (def : Definition) → IsAccepted (bytes_of held definition) def
-      → IsFaultless def name (bytes_of held program)
+      → IsFaultless def (comment_of (bytes_of held definition)) name (bytes_of held program)
 
 -- The run did not end at its own read of the file. A read by a command may fail.
 abbrev pub WasRead : World → World → Name → Type 0

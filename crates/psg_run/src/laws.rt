@@ -10,7 +10,7 @@ ghost use Rattle.psg_run.specs.ExportLaws.{HasOneExport, WritesNoOther};
 ghost use Rattle.psg_run.specs.FormatLaws.{FormatsOnce};
 ghost use Rattle.psg_run.specs.Outputs.{ArrangedReadsBack, EndsWell, HasOneOutput, HasOneRun, HasSomeOutput};
 ghost use Rattle.psg_run.specs.Outputs.{KeepsForms, LeavesFiles, RepliesAlike};
-ghost use Rattle.psg_run.specs.Reading.{IsAccepted as IsAcceptedText, IsRefusalLine};
+ghost use Rattle.psg_run.specs.Reading.{IsAccepted as IsAcceptedText, IsFileRefusalLine};
 ghost use Rattle.psg_run.specs.WindowLaws.{HasOneWindowOutput, HasSomeWindowOutput};
 ghost use Rattle.psg_run.specs.WindowLaws.{RefusalsMoveNothing, WindowsArePlain, WindowsStandAtNodes};
 ghost use Rattle.psg_specimen.specs.Refusal.{IsAccepted};
@@ -48,7 +48,7 @@ pub fn forms_are_kept(definition: &Definition)
 pub fn one_definition()
     ensures one { (bytes : List ℕ) (def other : Plain) → IsAcceptedText bytes def → IsAcceptedText bytes other
         → other ≡ def }
-    ensures not_both { (bytes line : List ℕ) (def : Plain) → IsAcceptedText bytes def → IsRefusalLine bytes line → ⊥ }
+    ensures not_both { (bytes line : List ℕ) (def : Plain) → IsAcceptedText bytes def → IsFileRefusalLine bytes line → ⊥ }
 {}
 
 /// States that a run for which nothing goes wrong outside ends well, or is out of memory: its definition is accepted,

@@ -32,6 +32,7 @@ pub mod status;
 mod term_texts;
 mod window_texts;
 mod windows;
+mod without;
 mod words;
 
 pub use program::run;
