@@ -87,7 +87,7 @@ is wrong with the program.
 ";
 
 /// What `--version` writes.
-const VERSION: &str = "psg 0.1\n";
+const VERSION: &str = "psg 0.1.0\n";
 
 /// Writes the text.
 fn tell<O: Sink>(alloc: Global, out: &mut O, text: &str) -> Status {
