@@ -6,7 +6,7 @@ _psg() {
         first=${COMP_WORDS[2]} place=$((place - 1))
     fi
     if [ "$place" -eq 1 ]; then
-        mapfile -t COMPREPLY < <(compgen -W "check edit live windows gen layout self format lint tui lsp explain test sample tree grammar codes commands help --help --version --build --explain" -- "$word")
+        mapfile -t COMPREPLY < <(compgen -W "check edit live windows gen layout self format lint tui lsp explain test sample tree grammar codes commands help --help --version --build --compile --explain" -- "$word")
         return
     fi
     case $first in

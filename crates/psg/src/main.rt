@@ -57,6 +57,7 @@ By the launcher ./psg alone:
   ./psg tree DEF KIND FILE   writes the tree of a program file as JSON
   ./psg --explain WORDS..   says on standard error, in words, what is refused; without the word where that is a terminal
   ./psg --build         proves the program and builds it
+  ./psg --compile       compiles it, the editor on the screen and the server without proofs
 
 Commands of a script, one a line; a path is / or /0/1, or . for the node that was changed last:
   new KIND              a new program: a placeholder of the phylum, or an empty list
