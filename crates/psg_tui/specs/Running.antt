@@ -73,7 +73,7 @@ pub data Takes (stroke : Spelled) (old : Editing) (before : Outside) : Editing �
       → Presses old.session.language old.kind key_lines (desk_of tree old) (desk_of grown new)
       (state_of old.session.editor) (state_of new.session.editor) tree grown stroke before after
       → Takes stroke old before new after
-  no_memory : {left : Editing} {after : Outside} → old.face.ended ≡ false → IsAsBefore old left
+  is_lost : {left : Editing} {after : Outside} → old.face.ended ≡ false → IsAsBefore old left
       → after.held ≡ before.held → Takes stroke old before (said_no_memory left) after
   is_over : old.face.ended ≡ true → Takes stroke old before old before
 
@@ -139,18 +139,20 @@ pub record IsTurn (s : Scene) (bytes : List ℕ) (t : Scene) : Type 0 where
 -- The turns of a run, one after the other, after so many turns before: how it ends, the editor and the files then, and the
 -- bytes that were written. It ends by a key, at the end of the input, at a read that fails or whose keys have no memory,
 -- where the writing fails, and after 2^64 - 1 turns.
-pub data Runs (turns : ℕ) (s : Scene) : Ending → Editing → Outside → List ℕ → Type 0 where
-  turn : {t : Scene} {ending : Ending} {end : Editing} {after : Outside} {bytes more : List ℕ} → IsTurn s bytes t
-      → t.tui.face.ended ≡ false → Runs (turns + 1) t ending end after more → Runs turns s ending end after (bytes ++ more)
-  by_key : {t : Scene} {bytes : List ℕ} → IsTurn s bytes t → t.tui.face.ended ≡ true
+pub data Runs : ℕ → Scene → Ending → Editing → Outside → List ℕ → Type 0 where
+  turn : {turns : ℕ} {s t : Scene} {ending : Ending} {end : Editing} {after : Outside} {bytes more : List ℕ}
+      → IsTurn s bytes t → t.tui.face.ended ≡ false → Runs (turns + 1) t ending end after more
+      → Runs turns s ending end after (bytes ++ more)
+  by_key : {turns : ℕ} {s t : Scene} {bytes : List ℕ} → IsTurn s bytes t → t.tui.face.ended ≡ true
       → Runs turns s endings.Done t.tui t.files bytes
-  by_input : {end : Editing} {shown : Option Picture} {left : Option (List ℕ)} {bytes : List ℕ}
-      → AreDrawn s.tui end s.shown shown bytes → IsPieceOf s.input left [] → Runs turns s endings.Done end s.files bytes
-  by_read : {ending : Ending} {end : Editing} {shown : Option Picture} {bytes : List ℕ}
+  by_input : {turns : ℕ} {s : Scene} {end : Editing} {shown : Option Picture} {rest : Option (List ℕ)} {bytes : List ℕ}
+      → AreDrawn s.tui end s.shown shown bytes → IsPieceOf s.input rest []
+      → Runs turns s endings.Done end s.files bytes
+  by_read : {turns : ℕ} {s : Scene} {ending : Ending} {end : Editing} {shown : Option Picture} {bytes : List ℕ}
       → AreDrawn s.tui end s.shown shown bytes → IsOfReading ending → Runs turns s ending end s.files bytes
-  by_writing : {ending : Ending} {end : Editing} {bytes : List ℕ} → AreCut s.tui end s.shown bytes → IsOfWriting ending
-      → Runs turns s ending end s.files bytes
-  by_count : turns ≡ 2 ^ 64 - 1 → Runs turns s endings.Done s.tui s.files []
+  by_writing : {turns : ℕ} {s : Scene} {ending : Ending} {end : Editing} {bytes : List ℕ}
+      → AreCut s.tui end s.shown bytes → IsOfWriting ending → Runs turns s ending end s.files bytes
+  by_count : {turns : ℕ} {s : Scene} → turns ≡ 2 ^ 64 - 1 → Runs turns s endings.Done s.tui s.files []
 
 -- ---- a run
 
