@@ -237,7 +237,7 @@ module _ (s t : Scene) (a b : Option (List ℕ)) (turns : ℕ) (far : SoFar s a 
   by_end now rest piece w given none same =
       so_ends s t a b c turns far w.0 w.2 endings.Done end after
       (subst (λ (x : Outside). Runs turns t endings.Done end x w.0) (sym same)
-      (by_input w.1 (subst (λ (x : List ℕ). IsPieceOf t.input rest x) none given)))
+      (by_input rest w.1 (subst (λ (x : List ℕ). IsPieceOf t.input rest x) none given)))
 
 -- with a turn more
 module _ (s t : Scene) (a b c : Option (List ℕ)) (turns : ℕ) (far : SoFar s a b turns t) (bytes : List ℕ) (added : c ≡ append_known b bytes) (u : Scene) (is : IsTurn t bytes u) where

@@ -145,7 +145,7 @@ pub data Runs : ℕ → Scene → Ending → Editing → Outside → List ℕ �
       → Runs turns s ending end after (bytes ++ more)
   by_key : {turns : ℕ} {s t : Scene} {bytes : List ℕ} → IsTurn s bytes t → t.tui.face.ended ≡ true
       → Runs turns s endings.Done t.tui t.files bytes
-  by_input : {turns : ℕ} {s : Scene} {end : Editing} {shown : Option Picture} {rest : Option (List ℕ)} {bytes : List ℕ}
+  by_input : {turns : ℕ} {s : Scene} {end : Editing} {shown : Option Picture} {bytes : List ℕ} (rest : Option (List ℕ))
       → AreDrawn s.tui end s.shown shown bytes → IsPieceOf s.input rest []
       → Runs turns s endings.Done end s.files bytes
   by_read : {turns : ℕ} {s : Scene} {ending : Ending} {end : Editing} {shown : Option Picture} {bytes : List ℕ}
