@@ -86,7 +86,7 @@ module _ (s t : Scene) (before now next : Option (List ℕ)) (turns : ℕ) (far 
   }
 
 pub so_counted : (s t : Scene) (before now : Option (List ℕ)) (turns : ℕ) → SoFar s before now turns t
-    → turns ≡ 2 ^ 64 - 1 → (end : Editing) (after : Outside) → end ≡ t.tui → after ≡ t.files
+    → 2 ^ 64 - 1 ≤ turns → (end : Editing) (after : Outside) → end ≡ t.tui → after ≡ t.files
     → Writes before now (Runs 0 s endings.Done end after)
 so_counted s t before now turns far all end after e f =
     so_ends s t before now now turns far [] (sym (nothing_more now)) endings.Done end after
@@ -98,25 +98,25 @@ so_counted s t before now turns far all end after e f =
 pub shown_so : (old new : Editing) (was seen : Option Picture) (p : Picture) (bytes text : List ℕ) (a b : Option (List ℕ))
     → IsScrolled old new → IsPictureOf old new p → Draws seen p bytes → seen ≡ was → text ≡ bytes
     → b ≡ append_known a text → Writes a b (IsDrawn old new was (Some p))
-shown_so old new was seen p bytes text a b left is drawn same spelled added = (
+shown_so old new was seen p bytes text a b window is drawn same spelled added = (
   bytes,
-  draws left is (subst (λ (x : Option Picture). Draws x p bytes) same drawn),
+  draws window is (subst (λ (x : Option Picture). Draws x p bytes) same drawn),
   added ∙ ap (append_known a) spelled,
 )
 
 pub shown_none : (old new : Editing) (was : Option Picture) (a : Option (List ℕ)) → IsScrolled old new
     → Writes a a (IsDrawn old new was was)
-shown_none old new was a left = ([], no_memory left, sym (nothing_more a))
+shown_none old new was a window = ([], no_memory window, sym (nothing_more a))
 
 pub shown_cut : (old new : Editing) (was seen : Option Picture) (p : Picture) (bytes text : List ℕ) (a b : Option (List ℕ))
     → IsScrolled old new → IsPictureOf old new p → Draws seen p bytes → seen ≡ was → text ≡ bytes → TakesFront a text b
     → Writes a b (IsCut old new was)
-shown_cut old new was seen p bytes text a b left is drawn same spelled front = (
+shown_cut old new was seen p bytes text a b window is drawn same spelled front = (
   take front.0 bytes,
   record {
     now = Some p;
     bytes = bytes;
-    drawn = draws left is (subst (λ (x : Option Picture). Draws x p bytes) same drawn);
+    drawn = draws window is (subst (λ (x : Option Picture). Draws x p bytes) same drawn);
     count = front.0;
     within = subst (λ (x : List ℕ). front.0 < length x) spelled front.1;
     front = refl;
@@ -124,21 +124,14 @@ shown_cut old new was seen p bytes text a b left is drawn same spelled front = (
   front.2 ∙ ap (λ (x : List ℕ). append_known a (take front.0 x)) spelled,
 )
 
-drawn_once : (old middle new : Editing) (was now : Option Picture) (a b : Option (List ℕ))
+pub drawn_once : (old middle new : Editing) (was now : Option Picture) (a b : Option (List ℕ))
     → Writes a b (IsDrawn old middle was now) → IsAsBefore middle new → Writes a b (AreDrawn old new was now)
 drawn_once old middle new was now a b w asked = (w.0, once w.1 asked, w.2)
 
-pub once_all : (r : Result (Option Picture) Ending) (old middle new : Editing) (was now : Option Picture)
-    (a b : Option (List ℕ)) → Writes a b (IsDrawn old middle was now) → IsAsBefore middle new → r ≡ Ok now
-    → IfOk r (λ x. Writes a b (AreDrawn old new was x))
-once_all r old middle new was now a b w asked is =
-    subst (λ (x : Result (Option Picture) Ending). IfOk x (λ y. Writes a b (AreDrawn old new was y))) (sym is)
-    (drawn_once old middle new was now a b w asked)
-
-module _ (old middle asked new : Editing) (was first : Option Picture) (a b c : Option (List ℕ)) (w : Writes a b (IsDrawn old middle was first)) (as : IsAsBefore middle asked) where
+module _ (old middle asked new : Editing) (was first : Option Picture) (a b c : Option (List ℕ)) (w : Writes a b (IsDrawn old middle was first)) (same : IsAsBefore middle asked) where
   pub twice_all : (r : Result (Option Picture) Ending) → IfOk r (λ x. Writes b c (IsDrawn asked new first x))
       → IfOk r (λ x. Writes a c (AreDrawn old new was x))
-  twice_all (Ok x) v = (w.0 ++ v.0, drawn_twice w.1 as v.1, then_writes a b c w.0 v.0 w.2 v.2)
+  twice_all (Ok x) v = (w.0 ++ v.0, drawn_twice w.1 same v.1, then_writes a b c w.0 v.0 w.2 v.2)
   twice_all (Err e) v = tt
 
   pub cut_second : (r : Result (Option Picture) Ending)
@@ -146,7 +139,7 @@ module _ (old middle asked new : Editing) (was first : Option Picture) (a b c : 
       → IfErr r (λ e. IsOfWriting e × Writes a c (AreCut old new was))
   cut_second (Ok x) v = tt
   cut_second (Err e) v =
-      (v.0, w.0 ++ v.1, second_cut w.1 as v.2, then_writes a b c w.0 v.1 w.2 v.3)
+      (v.0, w.0 ++ v.1, second_cut w.1 same v.2, then_writes a b c w.0 v.1 w.2 v.3)
 
 pub cut_first : (r : Result (Option Picture) Ending) (e : Ending) (old new : Editing) (was : Option Picture)
     (a b : Option (List ℕ)) → r ≡ Err e → IsOfWriting e × Writes a b (IsCut old new was)
@@ -154,6 +147,13 @@ pub cut_first : (r : Result (Option Picture) Ending) (e : Ending) (old new : Edi
 cut_first r e old new was a b is v =
     subst (λ (x : Result (Option Picture) Ending). IfErr x (λ y. IsOfWriting y × Writes a b (AreCut old new was))) (sym is)
     (v.0, v.1, first_cut v.2, v.3)
+
+pub cut_by : (r : Result (Option Picture) Ending) (e : Ending) (old new : Editing) (was : Option Picture)
+    (a b : Option (List ℕ)) → r ≡ Err e → IsOfWriting e → Writes a b (IsCut old new was)
+    → IfErr r (λ x. IsOfWriting x × Writes a b (IsCut old new was))
+cut_by r e old new was a b is fault v =
+    subst (λ (x : Result (Option Picture) Ending). IfErr x (λ y. IsOfWriting y × Writes a b (IsCut old new was))) (sym is)
+    (fault, v)
 
 -- ---- keys
 
@@ -170,11 +170,11 @@ pub pressed_so : (stroke : Spelled) (old new : Editing) (before after : Outside)
 pressed_so stroke old new before after ended is no same p =
     is_pressed (sym is ∙ no) same p.0 p.1 p.2 p.3 p.4
 
-pub said_so : (stroke : Spelled) (e left end : Editing) (before after : Outside) (ended : Bool) → ended ≡ e.face.ended
-    → ended ≡ false → IsAsBefore e left → after.held ≡ before.held → end ≡ said_no_memory left
+pub said_so : (stroke : Spelled) (e mid end : Editing) (before after : Outside) (ended : Bool) → ended ≡ e.face.ended
+    → ended ≡ false → IsAsBefore e mid → after.held ≡ before.held → end ≡ said_no_memory mid
     → Takes stroke e before end after
-said_so stroke e left end before after ended is no as held said =
-    subst (λ (x : Editing). Takes stroke e before x after) (sym said) (is_lost (sym is ∙ no) as held)
+said_so stroke e mid end before after ended is no same held said =
+    subst (λ (x : Editing). Takes stroke e before x after) (sym said) (is_lost (sym is ∙ no) same held)
 
 next_stroke : (xs : List Spelled) (i : ℕ) (s : Spelled) → i < length xs → s ≡ get_or xs i s
     → drop i xs ≡ s ∷ drop (i + 1) xs
@@ -193,16 +193,16 @@ taken_end xs i le end after =
     subst (λ (x : List Spelled). TakesAll x end after end after) (sym (drop_all i xs le)) (refl, refl)
 
 -- a turn from its parts
-pub turn_so : (tui drawn end : Editing) (files between after : Outside) (shown now left : Option Picture)
+pub turn_so : (tui drawn end : Editing) (files between after : Outside) (shown now known : Option Picture)
     (reader kept : Waiting) (input rest : Option (List ℕ)) (bytes piece : List ℕ) (strokes : List Spelled)
     → AreDrawn tui drawn shown now bytes → IsPieceOf input rest piece → (piece ≡ [] → ⊥)
     → HasRead reader piece strokes kept → between ≡ files → TakesAll strokes drawn between end after
-    → left ≡ cond (redraws strokes) None now
-    → IsTurn (scene tui files shown reader input) bytes (scene end after left kept rest)
-turn_so tui drawn end files between after shown now left reader kept input rest bytes piece strokes draws given more reads same taken seen = record {
+    → known ≡ cond (redraws strokes) None now
+    → IsTurn (scene tui files shown reader input) bytes (scene end after known kept rest)
+turn_so tui drawn end files between after shown now known reader kept input rest bytes piece strokes pictures given more reads same taken seen = record {
   drawn = drawn;
   shown = now;
-  draws = draws;
+  draws = pictures;
   piece = piece;
   given = given;
   more = more;
@@ -245,7 +245,7 @@ module _ (s t : Scene) (a b c : Option (List ℕ)) (turns : ℕ) (far : SoFar s 
   by_keys ended = so_ends s t a b c turns far bytes added endings.Done u.tui u.files (by_key is ended)
 
   pub goes_on : u.tui.face.ended ≡ false → SoFar s a c (turns + 1) u
-  goes_on open = so_next s t a b c turns far bytes added u is open
+  goes_on still = so_next s t a b c turns far bytes added u is still
 
 by_ending : (ending : Ending) (a b : Option (List ℕ)) (bytes : List ℕ)
     → b ≡ append_known a (entered ++ bytes ++ left) → IsLeft ending a b

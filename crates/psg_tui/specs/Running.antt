@@ -1,5 +1,5 @@
 -- What a run of the editor does, turn after turn, and what it writes.
-use Rattle.std.specs.Prelude.{ℕ, ◌≡◌, ◌+◌, ◌-◌, ◌^◌, ◌<◌, ◌==◌, ◌||◌, ◌++◌, Bool, true, false, cond, List, [], ◌∷◌}
+use Rattle.std.specs.Prelude.{ℕ, ◌≡◌, ◌+◌, ◌-◌, ◌^◌, ◌<◌, ◌≤◌, ◌==◌, ◌||◌, ◌++◌, Bool, true, false, cond, List, [], ◌∷◌}
 use Rattle.std.specs.Prelude.{Option, Some, None, length, take}
 use Rattle.std.specs.Io.KnownBytes.{append_known}
 use Rattle.psg_canvas.specs.Cells.{Picture}
@@ -152,7 +152,7 @@ pub data Runs : ℕ → Scene → Ending → Editing → Outside → List ℕ �
       → AreDrawn s.tui end s.shown shown bytes → IsOfReading ending → Runs turns s ending end s.files bytes
   by_writing : {turns : ℕ} {s : Scene} {ending : Ending} {end : Editing} {bytes : List ℕ}
       → AreCut s.tui end s.shown bytes → IsOfWriting ending → Runs turns s ending end s.files bytes
-  by_count : {turns : ℕ} {s : Scene} → turns ≡ 2 ^ 64 - 1 → Runs turns s endings.Done s.tui s.files []
+  by_count : {turns : ℕ} {s : Scene} → 2 ^ 64 - 1 ≤ turns → Runs turns s endings.Done s.tui s.files []
 
 -- ---- a run
 

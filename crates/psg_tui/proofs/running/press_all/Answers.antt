@@ -14,3 +14,7 @@ loop-number-preserved g c =
           c.index-strokes-number.is _ _ end _ _ after c.press_one.ensures.taken t);
       same = then_same _ _ _ c.loop-number.invariant.same c.press_one.ensures.same;
     }
+
+pub returns-clause-taken : goal.returns-clause-taken
+returns-clause-taken g c =
+    c.loop-number.invariant.taken _ _ (taken_end c.args.strokes.now c.loop-number.number c.loop-number-test.false _ _)
