@@ -6,8 +6,8 @@ ghost use Rattle.psg_canvas.specs.Drawing.{Draws};
 ghost use Rattle.psg_keys.specs.Reading.{at_first};
 ghost use Rattle.psg_tui.specs.Editing.{IsOfSame};
 ghost use Rattle.psg_tui.specs.Running as running;
-ghost use Rattle.psg_tui.specs.Running.{AreCut, AreDrawn, HasRun, IsCut, IsDrawn, IsLeft, IsOfWriting, IsPictureOf, Runs, Takes};
-ghost use Rattle.psg_tui.specs.Running.{TakesAll, Writes, scene};
+ghost use Rattle.psg_tui.specs.Running.{AreCut, AreDrawn, HasRun, IsCut, IsDrawn, IsLeft, IsOfWriting, IsPictureOf};
+ghost use Rattle.psg_tui.specs.Running.{Runs, Takes, TakesAll, Writes, scene};
 ghost use Rattle.psg_tui.specs.Scrolled.{IsScrolled};
 ghost use Rattle.psg_tui.specs.Views.{outside};
 ghost use Rattle.psg_world.specs.Sinks.{TakesFront};
@@ -43,7 +43,8 @@ pub fn run<F: Files, P: Pieces, O: Sink, L: Ledger>(
     out: &mut O,
     steps: &mut Steps<L>,
 ) -> Ending
-    ensures ran { HasRun (scene tui.old (outside (F.holds files.old) (F.faults files.old)) None at_first (P.left input.old))
+    ensures ran { HasRun
+        (scene tui.old (outside (F.holds files.old) (F.faults files.old)) None at_first (P.left input.old))
         (O.written out.old) result tui.new (outside (F.holds files.new) (F.faults files.new)) (O.written out.new) }
     ensures left { IsLeft result (O.written out.old) (O.written out.new) }
     ensures same { IsOfSame tui.old tui.new }

@@ -37,9 +37,9 @@ pub turns-preserved : goal.turns-preserved
 turns-preserved g c =
     record {
       far = goes_on _ _ _ _ _ _ c.turns.invariant.far c.in-Ok.ensures.drawn.0 c.in-Ok.ensures.drawn.2 _
-    (turn_so _ _ _ _ _ _ _ _ _ _ _ _ _ _ _ _ c.in-Ok.ensures.drawn.1 c.in-Ok-next_piece.ensures.gives
-    (c.is_last.ensures.more c.if-is_last.false) c.in-Ok-read.ensures.reads
-    (same_outside _ _ _ _ c.drawn.ensures.files) c.press_all.ensures.taken c.left_by.ensures)
+          (turn_so _ _ _ _ _ _ _ _ _ _ _ _ _ _ _ _ c.in-Ok.ensures.drawn.1 c.in-Ok-next_piece.ensures.gives
+          (c.is_last.ensures.more c.if-is_last.false) c.in-Ok-read.ensures.reads
+          (same_outside _ _ _ _ c.drawn.ensures.files) c.press_all.ensures.taken c.left_by.ensures)
           (sym c.is_ended.ensures ∙ c.if-is_ended.false);
       same = then_same _ _ _ c.turns.invariant.same (then_same _ _ _ c.drawn.ensures.same c.press_all.ensures.same);
     }
