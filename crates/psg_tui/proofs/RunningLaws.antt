@@ -139,14 +139,14 @@ module _ (old middle asked new : Editing) (was first : Option Picture) (a b c : 
       → IfErr r (λ e. IsOfWriting e × Writes a c (AreCut old new was))
   cut_second (Ok x) v = tt
   cut_second (Err e) v =
-      (v.0, w.0 ++ v.1, second_cut w.1 same v.2, then_writes a b c w.0 v.1 w.2 v.3)
+      (v.0, (w.0 ++ v.1.0, second_cut w.1 same v.1.1, then_writes a b c w.0 v.1.0 w.2 v.1.2))
 
 pub cut_first : (r : Result (Option Picture) Ending) (e : Ending) (old new : Editing) (was : Option Picture)
     (a b : Option (List ℕ)) → r ≡ Err e → IsOfWriting e × Writes a b (IsCut old new was)
     → IfErr r (λ x. IsOfWriting x × Writes a b (AreCut old new was))
 cut_first r e old new was a b is v =
     subst (λ (x : Result (Option Picture) Ending). IfErr x (λ y. IsOfWriting y × Writes a b (AreCut old new was))) (sym is)
-    (v.0, v.1, first_cut v.2, v.3)
+    (v.0, (v.1.0, first_cut v.1.1, v.1.2))
 
 pub cut_by : (r : Result (Option Picture) Ending) (e : Ending) (old new : Editing) (was : Option Picture)
     (a b : Option (List ℕ)) → r ≡ Err e → IsOfWriting e → Writes a b (IsCut old new was)
@@ -159,7 +159,7 @@ cut_by r e old new was a b is fault v =
 
 pub over_so : (stroke : Spelled) (e : Editing) (before : Outside) (ended : Bool) → ended ≡ e.face.ended → ended ≡ true
     → Takes stroke e before e before
-over_so stroke e before ended is yes = is_over (sym is ∙ yes)
+over_so stroke e before ended is so = is_over (sym is ∙ so)
 
 pub pressed_so : (stroke : Spelled) (old new : Editing) (before after : Outside) (ended : Bool) → ended ≡ old.face.ended
     → ended ≡ false → IsOfSame old new
@@ -167,14 +167,14 @@ pub pressed_so : (stroke : Spelled) (old new : Editing) (before after : Outside)
     × Presses old.session.language old.kind key_lines (desk_of tree old) (desk_of grown new)
     (state_of old.session.editor) (state_of new.session.editor) tree grown stroke before after
     → Takes stroke old before new after
-pressed_so stroke old new before after ended is no same p =
-    is_pressed (sym is ∙ no) same p.0 p.1 p.2 p.3 p.4
+pressed_so stroke old new before after ended is goes same p =
+    is_pressed (sym is ∙ goes) same p.0 p.1 p.2 p.3 p.4
 
 pub said_so : (stroke : Spelled) (e mid end : Editing) (before after : Outside) (ended : Bool) → ended ≡ e.face.ended
     → ended ≡ false → IsAsBefore e mid → after.held ≡ before.held → end ≡ said_no_memory mid
     → Takes stroke e before end after
-said_so stroke e mid end before after ended is no same held said =
-    subst (λ (x : Editing). Takes stroke e before x after) (sym said) (is_lost (sym is ∙ no) same held)
+said_so stroke e mid end before after ended is goes same held said =
+    subst (λ (x : Editing). Takes stroke e before x after) (sym said) (is_lost (sym is ∙ goes) same held)
 
 next_stroke : (xs : List Spelled) (i : ℕ) (s : Spelled) → i < length xs → s ≡ get_or xs i s
     → drop i xs ≡ s ∷ drop (i + 1) xs
@@ -194,20 +194,20 @@ taken_end xs i le end after =
 
 -- a turn from its parts
 pub turn_so : (tui drawn end : Editing) (files between after : Outside) (shown now known : Option Picture)
-    (reader kept : Waiting) (input rest : Option (List ℕ)) (bytes piece : List ℕ) (strokes : List Spelled)
-    → AreDrawn tui drawn shown now bytes → IsPieceOf input rest piece → (piece ≡ [] → ⊥)
-    → HasRead reader piece strokes kept → between ≡ files → TakesAll strokes drawn between end after
+    (reader kept : Waiting) (input rest : Option (List ℕ)) (bytes given piece : List ℕ) (made strokes : List Spelled)
+    → AreDrawn tui drawn shown now bytes → IsPieceOf input rest given → piece ≡ given → (piece ≡ [] → ⊥)
+    → HasRead reader piece made kept → strokes ≡ made → between ≡ files → TakesAll strokes drawn between end after
     → known ≡ cond (redraws strokes) None now
     → IsTurn (scene tui files shown reader input) bytes (scene end after known kept rest)
-turn_so tui drawn end files between after shown now known reader kept input rest bytes piece strokes pictures given more reads same taken seen = record {
+turn_so tui drawn end files between after shown now known reader kept input rest bytes given piece made strokes pictures gives looked more reads pressed same taken seen = record {
   drawn = drawn;
   shown = now;
   draws = pictures;
   piece = piece;
-  given = given;
+  given = subst (λ (x : List ℕ). IsPieceOf input rest x) (sym looked) gives;
   more = more;
   strokes = strokes;
-  reads = reads;
+  reads = subst (λ (x : List Spelled). HasRead reader piece x kept) (sym pressed) reads;
   taken = subst (λ (x : Outside). TakesAll strokes drawn x end after) same taken;
   left = seen;
 }
@@ -222,8 +222,8 @@ module _ (s t : Scene) (a b : Option (List ℕ)) (turns : ℕ) (far : SoFar s a 
   pub by_cut : (ending : Ending) → IsOfWriting ending × Writes b c (AreCut t.tui end t.shown) → after ≡ t.files
       → Writes a c (Runs 0 s ending end after)
   by_cut ending cut same =
-      so_ends s t a b c turns far cut.1 cut.3 ending end after
-      (subst (λ (x : Outside). Runs turns t ending end x cut.1) (sym same) (by_writing cut.2 cut.0))
+      so_ends s t a b c turns far cut.1.0 cut.1.2 ending end after
+      (subst (λ (x : Outside). Runs turns t ending end x cut.1.0) (sym same) (by_writing cut.1.1 cut.0))
 
   pub by_stop : (ending : Ending) (now : Option Picture) → Writes b c (AreDrawn t.tui end t.shown now)
       → IsOfReading ending → after ≡ t.files → Writes a c (Runs 0 s ending end after)

@@ -86,15 +86,17 @@ fn turns<F: Files, P: Pieces, O: Sink, L: Ledger>(
             Ok(piece) => piece,
             Err(stop) => return ending_of(stop),
         };
-        if is_last(piece.as_slice()) {
+        let bytes = piece.as_slice();
+        if is_last(bytes) {
             return Ending::Done;
         }
-        let strokes = match reader.read(alloc, piece.as_slice()) {
+        let strokes = match reader.read(alloc, bytes) {
             Ok(strokes) => strokes,
             Err(_) => return Ending::Memory,
         };
-        shown = left_by(strokes.as_slice(), shown);
-        press_all(alloc, tui, strokes.as_slice(), files, steps);
+        let keys = strokes.as_slice();
+        shown = left_by(keys, shown);
+        press_all(alloc, tui, keys, files, steps);
         if tui.is_ended() {
             return Ending::Done;
         }

@@ -18,3 +18,7 @@ pub returns-in-Ok-true-clause-cut : goal.returns-in-Ok-true-clause-cut
 returns-in-Ok-true-clause-cut g c =
     cut_second _ _ _ _ _ _ _ _ _ c.in_ok-shown.ensures.drawn c.wonder.ensures.left c.show-in-Ok-true.result
     c.show-in-Ok-true.ensures.cut
+
+pub returns-in_default-clause-drawn : goal.returns-in_default-clause-drawn
+returns-in_default-clause-drawn g c =
+    drawn_once _ _ _ _ _ _ _ c.in_ok-shown.ensures.drawn c.wonder.ensures.left

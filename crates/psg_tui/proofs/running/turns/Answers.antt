@@ -18,7 +18,8 @@ returns-in-Err-next_piece-clause-ran g c =
 pub returns-then-is_last-clause-ran : goal.returns-then-is_last-clause-ran
 returns-then-is_last-clause-ran g c =
     by_end _ _ _ _ _ c.turns.invariant.far _ _ _ _ _ _ c.in-Ok.ensures.drawn c.in-Ok-next_piece.ensures.gives
-    (c.is_last.ensures.last c.if-is_last.true) (same_outside _ _ _ _ c.drawn.ensures.files)
+    (sym c.as_slice-bytes.ensures.value ∙ c.is_last.ensures.last c.if-is_last.true)
+    (same_outside _ _ _ _ c.drawn.ensures.files)
 
 pub returns-in-Err-read-clause-ran : goal.returns-in-Err-read-clause-ran
 returns-in-Err-read-clause-ran g c =
@@ -28,18 +29,20 @@ returns-in-Err-read-clause-ran g c =
 pub returns-then-is_ended-clause-ran : goal.returns-then-is_ended-clause-ran
 returns-then-is_ended-clause-ran g c =
     by_keys _ _ _ _ _ _ c.turns.invariant.far c.in-Ok.ensures.drawn.0 c.in-Ok.ensures.drawn.2 _
-    (turn_so _ _ _ _ _ _ _ _ _ _ _ _ _ _ _ _ c.in-Ok.ensures.drawn.1 c.in-Ok-next_piece.ensures.gives
-    (c.is_last.ensures.more c.if-is_last.false) c.in-Ok-read.ensures.reads
-    (same_outside _ _ _ _ c.drawn.ensures.files) c.press_all.ensures.taken c.left_by.ensures)
+    (turn_so _ _ _ _ _ _ _ _ _ _ _ _ _ _ _ _ _ _ c.in-Ok.ensures.drawn.1 c.in-Ok-next_piece.ensures.gives
+    c.as_slice-bytes.ensures.value (c.is_last.ensures.more c.if-is_last.false) c.in-Ok-read.ensures.reads
+    c.as_slice-keys.ensures.value (same_outside _ _ _ _ c.drawn.ensures.files) c.press_all.ensures.taken
+    c.left_by.ensures)
     (sym c.is_ended.ensures ∙ c.if-is_ended.true)
 
 pub turns-preserved : goal.turns-preserved
 turns-preserved g c =
     record {
       far = goes_on _ _ _ _ _ _ c.turns.invariant.far c.in-Ok.ensures.drawn.0 c.in-Ok.ensures.drawn.2 _
-          (turn_so _ _ _ _ _ _ _ _ _ _ _ _ _ _ _ _ c.in-Ok.ensures.drawn.1 c.in-Ok-next_piece.ensures.gives
-          (c.is_last.ensures.more c.if-is_last.false) c.in-Ok-read.ensures.reads
-          (same_outside _ _ _ _ c.drawn.ensures.files) c.press_all.ensures.taken c.left_by.ensures)
+          (turn_so _ _ _ _ _ _ _ _ _ _ _ _ _ _ _ _ _ _ c.in-Ok.ensures.drawn.1 c.in-Ok-next_piece.ensures.gives
+          c.as_slice-bytes.ensures.value (c.is_last.ensures.more c.if-is_last.false) c.in-Ok-read.ensures.reads
+          c.as_slice-keys.ensures.value (same_outside _ _ _ _ c.drawn.ensures.files) c.press_all.ensures.taken
+          c.left_by.ensures)
           (sym c.is_ended.ensures ∙ c.if-is_ended.false);
       same = then_same _ _ _ c.turns.invariant.same (then_same _ _ _ c.drawn.ensures.same c.press_all.ensures.same);
     }
