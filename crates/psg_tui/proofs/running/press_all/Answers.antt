@@ -1,4 +1,3 @@
-use Rattle.std.proofs.Common.{refl}
 use Rattle.psg_tui.proofs.RunningLaws.{same_of, taken_end, taken_next, then_same}
 use Rattle.psg_tui.proofs.running.press_all.Goals as goal
 

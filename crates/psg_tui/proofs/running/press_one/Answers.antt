@@ -1,4 +1,3 @@
-use Rattle.std.proofs.Common.{sym, ◌∙◌}
 use Rattle.psg_tui.proofs.RunningLaws.{over_so, pressed_so, said_so}
 use Rattle.psg_tui.proofs.running.press_one.Goals as goal
 

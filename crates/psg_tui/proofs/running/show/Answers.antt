@@ -1,4 +1,4 @@
-use Rattle.std.proofs.Common.{rules, ◌≡◌, refl}
+use Rattle.std.proofs.Common.{rules, ◌≡◌}
 use Rattle.std.specs.Prelude.{Err}
 use Rattle.psg_tui.proofs.RunningLaws.{cut_by, shown_cut, shown_none, shown_so}
 use Rattle.psg_tui.proofs.running.show.Goals as goal

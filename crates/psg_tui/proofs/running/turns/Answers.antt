@@ -1,4 +1,4 @@
-use Rattle.std.proofs.Common.{ap, refl, sym, subst, ◌∙◌}
+use Rattle.std.proofs.Common.{refl, sym, ◌∙◌}
 use Rattle.psg_tui.proofs.RunningLaws.{as_none, by_cut, by_end, by_keys, by_stop, goes_on, same_of, so_counted, so_far_none, then_same, turn_so}
 use Rattle.psg_tui.proofs.TurnLaws.{same_outside}
 use Rattle.psg_tui.proofs.running.turns.Goals as goal
