@@ -32,7 +32,7 @@ returns-then-is_ended-clause-ran g c =
     (turn_so _ _ _ _ _ _ _ _ _ _ _ _ _ _ _ _ _ _ c.in-Ok.ensures.drawn.1 c.in-Ok-next_piece.ensures.gives
     c.as_slice-bytes.ensures.value (c.is_last.ensures.more c.if-is_last.false) c.in-Ok-read.ensures.reads
     c.as_slice-keys.ensures.value (same_outside _ _ _ _ c.drawn.ensures.files) c.press_all.ensures.taken
-    c.left_by.ensures)
+    c.left_by-shown.ensures)
     (sym c.is_ended.ensures ∙ c.if-is_ended.true)
 
 pub turns-preserved : goal.turns-preserved
@@ -42,7 +42,7 @@ turns-preserved g c =
           (turn_so _ _ _ _ _ _ _ _ _ _ _ _ _ _ _ _ _ _ c.in-Ok.ensures.drawn.1 c.in-Ok-next_piece.ensures.gives
           c.as_slice-bytes.ensures.value (c.is_last.ensures.more c.if-is_last.false) c.in-Ok-read.ensures.reads
           c.as_slice-keys.ensures.value (same_outside _ _ _ _ c.drawn.ensures.files) c.press_all.ensures.taken
-          c.left_by.ensures)
+          c.left_by-shown.ensures)
           (sym c.is_ended.ensures ∙ c.if-is_ended.false);
       same = then_same _ _ _ c.turns.invariant.same (then_same _ _ _ c.drawn.ensures.same c.press_all.ensures.same);
     }
