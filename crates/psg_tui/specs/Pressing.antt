@@ -21,7 +21,7 @@ use Rattle.psg_program.specs.Formatted.{formatted as formatted_of}
 use Rattle.psg_unparse.specs.Layout.{text_of}
 use Rattle.psg_unparse.specs.Spans.{printed_of}
 use Rattle.psg_world.specs.Files.{bytes_of, reading, writing}
-use Rattle.psg_face.specs.Moves.{as_far, leads}
+use Rattle.psg_face.specs.Moves.{as_far}
 use Rattle.psg_face.specs.Opens.{open_below}
 use Rattle.psg_script.specs.declared.command.Command.{Command}
 use Rattle.psg_session.specs.PlainState.{State, Opened}
@@ -42,7 +42,7 @@ use Rattle.psg_keymap.specs.Spots.{spot_for}
 use Rattle.psg_keymap.specs.declared.table.Due.{Due}
 use Rattle.psg_keymap.specs.Table.{command_of, is_save, is_undo, putting}
 use Rattle.psg_modes.specs.Turning.{browsed, choosing, chosen_key, is_own_key, is_page_key, is_wrong_key, led, line_key}
-use Rattle.psg_modes.specs.Turning.{named_key, naming, no_key_of, offering, paged_key, paging, saying, sized}
+use Rattle.psg_modes.specs.Turning.{named_key, naming, no_key_of, offering, page_path, paged_key, paging, saying, sized}
 use Rattle.psg_modes.specs.Wrong.{is_forward, next_of, why_at}
 use Rattle.psg_asking.specs.Asked.{IsToldOf, Read, menu_of, names_of, relation_of}
 use Rattle.psg_asking.specs.Putting.{IsTextOf}
@@ -119,6 +119,11 @@ pub data IsNotThere (before middle : Outside) (name : Name) : Type 0 where
   is_unread : middle.held ≡ before.held → middle.entries ≡ before.entries ++ reading name ∷ []
       → IsNotThere before middle name
 
+-- Page Down, and not Page Up
+abbrev pub is_down : Key → Bool
+is_down keys.PageDown = true
+is_down _ = false
+
 -- the modes in which Enter puts an operator
 abbrev pub is_putting : Mode → Bool
 is_putting modes.Choosing = true
@@ -156,14 +161,13 @@ module _ (def : Definition) (kind : Kind) (tree : Fragment) (page : List (List �
     culprit : (paths : List Path) (found : Path) → IsMarkBy (IsCompletable def) tree (marks.wrong paths)
         → IsUnknown def tree → next_of paths path forward ≡ Some found → IsNextWrong path forward found of_parts
 
-  -- A key while a place is chosen. Of Page Up and Page Down it is said that they lead to a place, where the chosen path
-  -- leads to one.
+  -- A key while a place is chosen.
   pub data Browses (d : Desk) (before after : Outside) : Spelled → Desk → Type 0 where
     moves : {stroke : Spelled} {path : Path} → led tree d.face.chosen stroke.key ≡ Some path → after ≡ before
         → Browses d before after stroke (with_face d (choosing path d.face))
-    pages : {stroke : Spelled} {path : Path} → is_page_key stroke.key ≡ true
-        → (leads tree d.face.chosen ≡ true → leads tree path ≡ true) → after ≡ before
-        → Browses d before after stroke (with_face d (choosing path d.face))
+    pages : {stroke : Spelled} → is_page_key stroke.key ≡ true → after ≡ before
+        → Browses d before after stroke
+        (with_face d (choosing (page_path (printed_of def tree) d.face (is_down stroke.key)) d.face))
     offers : {stroke : Spelled} {spot : Spot} (told : Option Read)
         → spot_for tree d.face.chosen stroke.key ≡ Some spot → IsToldOf def kind tree spot menu_of words_told told
         → after ≡ before → Browses d before after stroke (with_face d (offered d.face spot told))
@@ -271,24 +275,25 @@ versions_after command (replies.refused refusal) n = n
 versions_after command (replies.answered lines) n = versions_done command n
 
 -- Where it is no command, the program is as it was; else it is that of the plain editor after the command. Undo goes
--- back to the program with which the editor began: before it is the empty one from which a file was read.
-abbrev pub Does : Definition → Kind → List (List ℕ) → Desk → Desk → State → State → Fragment → Fragment → Spelled → Outside → Outside → ℕ → ℕ
+-- back to the program with which the editor began: before it is the empty one from which a file was read. How far the
+-- counter goes at a key is not said: it may be asked more than the command.
+abbrev pub Does : Definition → Kind → List (List ℕ) → Desk → Desk → State → State → Fragment → Fragment → Spelled → Outside → Outside
     → Option Due → Type 0
-Does def kind page d e s t old new stroke before after from to None =
+Does def kind page d e s t old new stroke before after None =
     (t ≡ s) × Turns def kind old page d before after stroke stroke.key e
-Does def kind page d e s t old new stroke before after from to (Some due) =
+Does def kind page d e s t old new stroke before after (Some due) =
     cond (is_undo due.command && (d.versions == 0))
     ((t ≡ s) × (e ≡ with_face d (saying (refused (number_of refusals.NothingEarlier)) d.face)) × (after ≡ before))
-    ((middle : ℕ) × (reply : Reply) × HasApplied def s t due.command before after middle to reply
+    ((from to : ℕ) × (reply : Reply) × HasApplied def s t due.command before after from to reply
     × (e ≡ record (with_face d (command_face new d.face due reply)) { versions = versions_after due.command reply d.versions }))
 
 -- A key: either it is no command, and the program is as it was; or it is one command, and the program is that of the
 -- plain editor after it, with its reply.
 pub record Presses (def : Definition) (kind : Kind) (page : List (List ℕ)) (d e : Desk) (s t : State) (old new : Fragment)
-    (stroke : Spelled) (before after : Outside) (from to : ℕ) : Type 0 where
+    (stroke : Spelled) (before after : Outside) : Type 0 where
   pub opened : IsOpened s kind old
   pub opens : IsOpened t kind new
   pub due : Option Due
   pub is_due : IsDue def kind old page d.face stroke.key due
-  pub pressed : Does def kind page d e s t old new stroke before after from to due
+  pub pressed : Does def kind page d e s t old new stroke before after due
   pub faced : IsFace old d.face → IsFace new e.face
