@@ -50,7 +50,8 @@ pub data IsWrongFound (def : Definition) (tree : Fragment) (chosen : Path) (forw
     : Option (Path × Why) → Type 0 where
   blamed : {found : Option (Path × Why)} (r : Repair) → IsRepairOf def tree r
       → IsBlamedFound tree r.places.items chosen forward found → IsWrongFound def tree chosen forward found
-  culprit : (paths : List Path) (path : Path) → IsMarkBy (IsCompletable def) tree (marks.wrong paths) → IsUnknown def tree
+  culprit : (paths : List Path) (path : Path) → IsMarkBy (IsCompletable def) tree (marks.wrong paths)
+      → IsUnknown def tree
       → next_of paths chosen forward ≡ Some path → IsWrongFound def tree chosen forward (Some (path, of_parts))
 
 -- what there is beside the program where it was found

@@ -35,8 +35,8 @@ IsPictureOf old new p =
     (tree : Fragment) → IsAt old tree → Shows old.session.language tree (shown_face tree old.aim old.face)
     (shown_face tree new.aim new.face) p
 
--- The editor is drawn over the picture that is shown, which is then the new one; the bytes make a terminal that shows the
--- old one show the new one. Where memory runs out nothing is written, and the old one stays.
+-- The editor is drawn over the picture that is shown, which is then the new one; the bytes make a terminal that shows
+-- the old one show the new one. Where memory runs out nothing is written, and the old one stays.
 pub data IsDrawn (old new : Editing) (was : Option Picture) : Option Picture → List ℕ → Type 0 where
   draws : {picture : Picture} {bytes : List ℕ} → IsScrolled old new → IsPictureOf old new picture
       → Draws was picture bytes → IsDrawn old new was (Some picture) bytes
@@ -46,7 +46,8 @@ pub data IsDrawn (old new : Editing) (was : Option Picture) : Option Picture →
 pub data AreDrawn (old new : Editing) (was : Option Picture) : Option Picture → List ℕ → Type 0 where
   once : {middle : Editing} {now : Option Picture} {bytes : List ℕ} → IsDrawn old middle was now bytes
       → IsAsBefore middle new → AreDrawn old new was now bytes
-  twice : {middle asked : Editing} {first now : Option Picture} {bytes more : List ℕ} → IsDrawn old middle was first bytes
+  twice : {middle asked : Editing} {first now : Option Picture} {bytes more : List ℕ}
+      → IsDrawn old middle was first bytes
       → IsAsBefore middle asked → IsDrawn asked new first now more → AreDrawn old new was now (bytes ++ more)
 
 -- only a front of the bytes of a picture is written
@@ -96,8 +97,8 @@ abbrev pub redraws : List Spelled → Bool
 redraws [] = false
 redraws (stroke ∷ more) = is_redrawing stroke.key || redraws more
 
--- What there is between two turns: the editor, what is known of the files, the picture that is shown, what the reader of
--- keys keeps, and what the input has still to give, where that is known.
+-- What there is between two turns: the editor, what is known of the files, the picture that is shown, what the reader
+-- of keys keeps, and what the input has still to give, where that is known.
 pub record Scene : Type 0 where
   pub tui : Editing
   pub files : Outside
@@ -136,9 +137,9 @@ pub record IsTurn (s : Scene) (bytes : List ℕ) (t : Scene) : Type 0 where
   pub taken : TakesAll strokes drawn s.files t.tui t.files
   pub left : t.shown ≡ cond (redraws strokes) None shown
 
--- The turns of a run, one after the other, after so many turns before: how it ends, the editor and the files then, and the
--- bytes that were written. It ends by a key, at the end of the input, at a read that fails or whose keys have no memory,
--- where the writing fails, and after 2^64 - 1 turns.
+-- The turns of a run, one after the other, after that many turns before: how it ends, the editor and the files then,
+-- and the bytes that were written. It ends by a key, at the end of the input, at a read that fails or whose keys have
+-- no memory, where the writing fails, and after 2^64 - 1 turns.
 pub data Runs : ℕ → Scene → Ending → Editing → Outside → List ℕ → Type 0 where
   turn : {turns : ℕ} {s t : Scene} {ending : Ending} {end : Editing} {after : Outside} {bytes more : List ℕ}
       → IsTurn s bytes t → t.tui.face.ended ≡ false → Runs (turns + 1) t ending end after more
@@ -163,8 +164,8 @@ entered = bytes_of_all 1 entering ++ paste_marked
 abbrev pub left : List ℕ
 left = paste_unmarked ++ bytes_of_all 1 leaving
 
--- A whole run from a scene: another screen is entered, there are the turns, and the first screen is shown again. Where the
--- writing fails at the beginning there is no turn; where it fails at the end, that is how the run ended.
+-- A whole run from a scene: another screen is entered, there are the turns, and the first screen is shown again. Where
+-- the writing fails at the beginning there is no turn; where it fails at the end, that is how the run ended.
 pub data HasRun (s : Scene) (before : Option (List ℕ)) : Ending → Editing → Outside → Option (List ℕ) → Type 0 where
   is_run : {ending : Ending} {end : Editing} {files : Outside} {after : Option (List ℕ)} {bytes : List ℕ}
       → Runs 0 s ending end files bytes → after ≡ append_known before (entered ++ bytes ++ left)

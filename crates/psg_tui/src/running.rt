@@ -25,8 +25,11 @@ use std::sync::ledger::Ledger;
 pub enum Ending {
     /// By `q`, or by the end of the input.
     Done,
+    /// By a read of the input that failed.
     ReadFault,
+    /// By a write that failed.
     WriteFault,
+    /// Since memory ran out.
     Memory,
 }
 
@@ -122,7 +125,7 @@ fn is_last(piece: &[u8]) -> bool
     piece.is_empty()
 }
 
-/// Says whether all is to be drawn anew: at Ctrl-L, and where the screen has another size, the terminal may show
+/// Says whether all is to be drawn again: at Ctrl-L, and where the screen has another size, the terminal may show
 /// anything.
 fn redraws(strokes: &[Stroke]) -> bool
     ensures { result ≡ running.redraws strokes.now }

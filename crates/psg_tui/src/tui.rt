@@ -28,7 +28,7 @@ pub struct Tui {
     editing: Editing,
 }
 
-// written out, so that it is proved once, and not anew in each crate where such a value is let go
+// written out, so that it is proved once, and not again in each crate where such a value is let go
 impl Drop for Tui {
     fn drop(self) {
         let Tui { editing } = self;

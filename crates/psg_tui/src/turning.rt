@@ -12,7 +12,8 @@ ghost use Rattle.psg_tui.specs.declared.editing.Aim.TheVariants as aims;
 ghost use Rattle.psg_tui.specs.Editing.{IsAt, IsEditing, IsOfProgram, IsTried, IsUntouched, is_wrong};
 ghost use Rattle.psg_tui.specs.Found as found;
 ghost use Rattle.psg_tui.specs.Found.{GoesWrong, IsBlamedFound, IsLed, IsWrongFound, seen_of};
-ghost use Rattle.psg_tui.specs.Pressing.{Browses, Chooses, Turns, TurnsIn, is_changed, named_by, offered, related, with_face};
+ghost use Rattle.psg_tui.specs.Pressing.{Browses, Chooses, Turns, TurnsIn, is_changed};
+ghost use Rattle.psg_tui.specs.Pressing.{named_by, offered, related, with_face};
 ghost use Rattle.psg_tui.specs.Views.{desk, face_of, outside};
 
 use crate::editing::{Editing, note_of};
