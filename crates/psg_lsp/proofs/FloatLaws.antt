@@ -11,6 +11,8 @@ use Rattle.psg_documents.specs.declared.encoding.Encoding.TheVariants as encodin
 use Rattle.psg_documents.specs.declared.lines.Position.{Position}
 use Rattle.psg_grammar.specs.declared.types.Definition.{Definition}
 use Rattle.psg_grammar.specs.declared.types.Kind.{Kind}
+use Rattle.psg_links.specs.declared.linked.Linked.{Linked}
+use Rattle.psg_links.specs.declared.spot.Spot.{Spot}
 use Rattle.psg_messages.specs.Answers.{answer_of, id_or_null, refusal_of}
 use Rattle.psg_messages.specs.Messages.{Given, Said, answer, given_by, id_by, is_id, note, request, said, said_by, said_method, said_with, wrong}
 use Rattle.psg_messages.specs.Turns.{Due, are_wrong, code_of, due, due_known, due_request, is_ready, passed, refused, served}
@@ -21,13 +23,18 @@ use Rattle.psg_messages.specs.declared.turns.Phase.TheVariants as phases
 use Rattle.psg_pointing.specs.declared.hovering.Hover.{Hover}
 use Rattle.psg_recover.specs.declared.finding.Finding.{Finding}
 use Rattle.psg_server.specs.declared.documents.Document.{Document}
+use Rattle.psg_server.specs.declared.methods.Ask.{Ask}
+use Rattle.psg_server.specs.declared.methods.Ask.TheVariants as asked
 use Rattle.psg_server.specs.declared.server.Server.{Server}
+use Rattle.psg_server.specs.Answering.{asks, asks_none, names, names_none, names_not}
 use Rattle.psg_server.specs.Answering.{Answers, Gets, Out, Serves, changes, changes_none, closes, closes_none, exits, formats, formats_none, greets, hovers, hovers_none, is_passed, is_refused, is_served, json, no_json, opens, opens_none, sent, shuts_down, reason_of}
 use Rattle.psg_server.specs.Capabilities.{greeting_of}
 use Rattle.psg_server.specs.Diagnostics.{AreDiagnostics, IsPublished, IsPublishedOf, all_told, diagnostic_data, more_may_follow, one_more, publish_data, severity_of}
 use Rattle.psg_server.specs.Edits.{IsFormatting, IsFormattingOf, as_it_is, no_program, one_edit}
-use Rattle.psg_server.specs.Fields.{changed_in, encoding_in}
+use Rattle.psg_server.specs.Fields.{Renamed, changed_in, encoding_in, wants_declaring}
 use Rattle.psg_server.specs.Hovering.{IsTold, IsToldIn}
+use Rattle.psg_server.specs.Linking.{AreShown, IsDeclaration, IsList, IsNamedOf, IsPrepared, IsRepliedOf, IsReply, IsReplyOf, IsShown, Way}
+use Rattle.psg_server.specs.Linking.{as_edit, as_light, as_place, none_left, passed as not_wanted, shown, shown_data, words_of}
 use Rattle.psg_server.specs.Methods.{is_known}
 use Rattle.psg_server.specs.Ranges.{IsRange}
 use Rattle.psg_lsp.specs.Talking.{IsPlainOut}
@@ -186,6 +193,63 @@ hover_plain : (def : Definition) (kind : Kind) (encoding : Encoding) (text : Opt
 hover_plain def kind encoding None position d e = ap has_float e
 hover_plain def kind encoding (Some text) position d so = told_plain encoding text so.hover d so.is
 
+-- ---- names
+
+shown_data_plain : (way : Way) (declares : Bool) (range : Data) → has_float range ≡ false
+    → has_float (shown_data way declares range) ≡ false
+shown_data_plain (as_place address) declares range e = ap (λ a. a || (false || false)) e
+shown_data_plain as_light declares range e = ap (λ a. false || (a || false)) e
+shown_data_plain (as_edit new) declares range e = ap (λ a. false || (a || false)) e
+
+module _ (encoding : Encoding) (text : List ℕ) where
+  shown_plain : (way : Way) (s : Spot) (d : Data) → IsShown encoding text way s d → has_float d ≡ false
+  shown_plain way s d is =
+      ap has_float is.is ∙ shown_data_plain way s.declares is.range (range_plain encoding text _ _ is.range is.is_range)
+
+  all_plain : (way : Way) (all : Bool) (ss : List Spot) (ds : List Data) → AreShown encoding text way all ss ds
+      → items_have_float (items_of ds) ≡ false
+  all_plain way all _ _ none_left = refl
+  all_plain way all _ _ (not_wanted {ss} {ds} s e rest) = all_plain way all ss ds rest
+  all_plain way all _ _ (shown {ss} {ds} s d e is rest) =
+      ap₂ (λ a b. a || b) (shown_plain way s d is) (all_plain way all ss ds rest)
+
+  list_plain : (way : Way) (all : Bool) (ss : List Spot) (d : Data) → IsList encoding text way all ss d → has_float d ≡ false
+  list_plain way all ss d is = ap has_float is.is ∙ all_plain way all ss is.values is.are
+
+  declaration_plain : (address : List ℕ) (o : Option Spot) (d : Data) → IsDeclaration encoding text address o d
+      → has_float d ≡ false
+  declaration_plain address None d e = ap has_float e
+  declaration_plain address (Some s) d is = shown_plain (as_place address) s d is
+
+  prepared_plain : (o : Option Spot) (own : Spot) (d : Data) → IsPrepared encoding text o own d → has_float d ≡ false
+  prepared_plain None own d e = ap has_float e
+  prepared_plain (Some s) own d is = range_plain encoding text _ _ d is
+
+  name_plain : (address : List ℕ) (ask : Ask) (all : Bool) (a : Linked) (d : Data) → IsReplyOf encoding text address ask all a d
+      → has_float d ≡ false
+  name_plain address asked.Definition all a d is = declaration_plain address a.declaration d is
+  name_plain address asked.References all a d is = list_plain (as_place address) all a.together.items d is
+  name_plain address asked.Highlights all a d is = list_plain as_light true a.together.items d is
+  name_plain address asked.Preparing all a d is = prepared_plain a.declaration a.own d is
+
+  reply_plain : (address : List ℕ) (ask : Ask) (all : Bool) (a : Option Linked) (d : Data)
+      → IsReply encoding text address ask all a d → has_float d ≡ false
+  reply_plain address ask all None d e = ap has_float e
+  reply_plain address ask all (Some a) d is = name_plain address ask all a d is
+
+replied_plain : (def : Definition) (kind : Kind) (encoding : Encoding) (address : List ℕ) (text : Option (List ℕ)) (ask : Ask)
+    (all : Bool) (at : Position) (d : Data) → IsRepliedOf def kind encoding address text ask all at d → has_float d ≡ false
+replied_plain def kind encoding address None ask all at d e = ap has_float e
+replied_plain def kind encoding address (Some text) ask all at d so =
+    reply_plain encoding text address ask all so.linked d so.is
+
+named_plain : (def : Definition) (kind : Kind) (encoding : Encoding) (address : List ℕ) (text : Option (List ℕ)) (r : Renamed)
+    (d : Data) → IsNamedOf def kind encoding address text r d → has_float d ≡ false
+named_plain def kind encoding address None r d wrong = absurd wrong
+named_plain def kind encoding address (Some text) r d so =
+    ap has_float so.is
+    ∙ ap (λ a. (a || false) || false) (all_plain encoding text (as_edit r.name) true so.spots.items so.edits so.are)
+
 -- ---- what is sent
 
 published_plain : (def : Definition) (kind : Kind) (encoding : Encoding) (d : Document) (told : Data)
@@ -210,6 +274,17 @@ module _ (def : Definition) (kind : Kind) where
   served_plain _ old _ _ _ (hovers id method given p told is there so) h =
       answer_plain id told (plain_id id h) (hover_plain def kind old.encoding p.document.text p.position told so)
   served_plain _ old _ _ _ (hovers_none id method given is none) h =
+      refusal_plain (Some id) faults.WrongParams (reason_of faults.WrongParams) h
+  served_plain _ old _ _ _ (asks id method given p ask value is there so) h =
+      answer_plain id value (plain_id id h)
+      (replied_plain def kind old.encoding p.document.address p.document.text ask (wants_declaring given) p.position value so)
+  served_plain _ old _ _ _ (asks_none id method given ask is none) h =
+      refusal_plain (Some id) faults.WrongParams (reason_of faults.WrongParams) h
+  served_plain _ old _ _ _ (names id method given d r value is there says so) h =
+      answer_plain id value (plain_id id h) (named_plain def kind old.encoding d.address d.text r value so)
+  served_plain _ old _ _ _ (names_not id method given d r why is there says so) h =
+      refusal_plain (Some id) faults.WrongParams (words_of why) h
+  served_plain _ old _ _ _ (names_none id method given is none) h =
       refusal_plain (Some id) faults.WrongParams (reason_of faults.WrongParams) h
   served_plain _ old _ _ _ (opens method given d new told is says becomes published) h =
       published_plain def kind old.encoding d told published
