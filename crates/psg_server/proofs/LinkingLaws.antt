@@ -104,6 +104,7 @@ module _ (def : Definition) (kind : Kind) (encoding : Encoding) (text : List ℕ
   forest = nodes_of def p.tree kind 0 page.nesting (tokens_of p.tokens.items) page.yields
 
   nodes_are : ranges_in forest ≡ p.ranges.nodes
+  unfolding forest
   nodes_are = sym page.nodes
 
   pub found_in : (at : Position) (a : Option Linked) → IsThere encoding text at byte
