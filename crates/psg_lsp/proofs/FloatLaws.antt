@@ -245,7 +245,7 @@ replied_plain def kind encoding address (Some text) ask all at d so =
 
 named_plain : (def : Definition) (kind : Kind) (encoding : Encoding) (address : List ℕ) (text : Option (List ℕ)) (r : Renamed)
     (d : Data) → IsNamedOf def kind encoding address text r d → has_float d ≡ false
-named_plain def kind encoding address None r d wrong = absurd wrong
+named_plain def kind encoding address None r d never = absurd never
 named_plain def kind encoding address (Some text) r d so =
     ap has_float so.is
     ∙ ap (λ a. (a || false) || false) (all_plain encoding text (as_edit r.name) true so.spots.items so.edits so.are)
