@@ -56,7 +56,21 @@ local function run()
   end)
 end
 
-local good, fault = pcall(run)
+-- names: where one is declared, and a new name for all that mean the same
+local function run_names()
+  vim.api.nvim_buf_set_lines(0, 0, -1, false, { "begin", "  var x : int", "do", "  x := 1", "end" })
+  want("definition", { start = { line = 1, character = 6 }, ["end"] = { line = 1, character = 7 } }, function()
+    local place = asked("textDocument/definition", 3, 2)
+    return place and place.range
+  end)
+  vim.api.nvim_win_set_cursor(0, { 4, 2 })
+  vim.lsp.buf.rename("total")
+  want("rename", { "begin", "  var total : int", "do", "  total := 1", "end" }, function()
+    return vim.api.nvim_buf_get_lines(0, 0, -1, false)
+  end)
+end
+
+local good, fault = pcall(function() run() run_names() end)
 if not good then
   failed = failed + 1
   io.stdout:write(tostring(fault), "\n")

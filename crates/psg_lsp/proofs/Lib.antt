@@ -1,1 +1,3 @@
+mod FloatLaws
 mod KindLaws
+mod TalkLaws

@@ -1,4 +1,6 @@
 //! How the server ends.
+ghost use Rattle.std.specs.Prelude.{◌≡◌, ◌⊎◌};
+ghost use Rattle.psg_lsp.specs.Talking.{IsBroken};
 
 use psg_world::{ReadStop, WriteStop};
 
@@ -37,7 +39,9 @@ impl Ending {
 }
 
 /// Returns the ending at a read that stopped.
-pub fn read_ending(stop: ReadStop) -> Ending {
+pub fn read_ending(stop: ReadStop) -> Ending
+    ensures { IsBroken result ⊎ (result ≡ Ending.ReadFault) }
+{
     match stop {
         ReadStop::Failed => Ending::ReadFault,
         ReadStop::Memory => Ending::Memory,
@@ -45,7 +49,9 @@ pub fn read_ending(stop: ReadStop) -> Ending {
 }
 
 /// Returns the ending at a write that stopped.
-pub fn write_ending(stop: WriteStop) -> Ending {
+pub fn write_ending(stop: WriteStop) -> Ending
+    ensures { IsBroken result }
+{
     match stop {
         WriteStop::Failed => Ending::WriteFault,
         WriteStop::Memory => Ending::Memory,

@@ -1,5 +1,18 @@
 //! The conversation: frames of the input, and frames that are put.
+ghost use Rattle.std.specs.Prelude.{◌≡◌, IfOk, MatchOption, false, map};
+ghost use Rattle.std.specs.Io.KnownBytes.{append_known};
+ghost use Rattle.std.specs.Option.{option_map};
+ghost use Rattle.serde_json.specs.View.{view};
+ghost use Rattle.serde_json.specs.Written.{compact_text, has_float};
 ghost use Rattle.psg_grammar.specs.Kinds.{HasKind};
+ghost use Rattle.psg_grammar.specs.declared.types.Definition.{Definition as Plain};
+ghost use Rattle.psg_grammar.specs.declared.types.Kind.{Kind as PlainKind};
+ghost use Rattle.psg_messages.specs.Answers.{refusal_of};
+ghost use Rattle.psg_protocol.specs.Frames.{body as body_event, event_of, framed as framed_of, lost};
+ghost use Rattle.psg_server.specs.Answering.{Answers, Out, out_of};
+ghost use Rattle.psg_server.specs.declared.server.Server.{Server as PlainServer};
+ghost use Rattle.psg_lsp.specs.Talking.{AreTaken, EndsWith, GoesOn, IsBroken, IsOver, IsPieceTaken, IsPlainOut, IsPut};
+ghost use Rattle.psg_lsp.specs.Talking.{IsPutValue, IsTaken, Stops, StopsAtPiece, StopsWithin, Talks, long_data, place_at};
 ghost use Rattle.psg_specimen.specs.Languages.{IsDeclaringPhylum};
 
 use crate::ending::{Ending, read_ending, write_ending};
@@ -18,20 +31,36 @@ use std::sync::ledger::Ledger;
 pub const MOST_PIECE: usize = 65_536;
 
 /// Returns the bytes of the frame with the value.
-fn frame_of(alloc: Global, value: &Value) -> Result<Vec<u8>, AllocError> {
+fn frame_of(alloc: Global, value: &Value) -> Result<Vec<u8>, AllocError>
+    ensures { IfOk result (λ bytes. has_float (view value.now) ≡ false
+        → bytes.items ≡ framed_of (compact_text (view value.now))) }
+{
     let text = value.to_string(alloc)?;
     let bytes = framed(alloc, text.as_bytes())?;
     Ok(bytes)
 }
 
-/// Puts the value as a frame. Returns the ending where that fails.
-pub fn put_value<O: Sink>(alloc: Global, value: &Value, out: &mut O) -> Option<Ending> {
-    let Ok(bytes) = frame_of(alloc, value) else {
-        return Some(Ending::Memory);
-    };
-    match put_all(alloc, out, bytes.as_slice()) {
+/// Puts the bytes. Returns the ending where that fails.
+fn put_bytes<O: Sink>(alloc: Global, bytes: &[u8], out: &mut O) -> Option<Ending>
+    ensures { MatchOption result (O.written out.new ≡ append_known (O.written out.old) bytes.now) (λ e. IsBroken e) }
+{
+    match put_all(alloc, out, bytes) {
         Ok(()) => None,
         Err(stop) => Some(write_ending(stop)),
+    }
+}
+
+/// Puts the value as a frame. Returns the ending where that fails.
+pub fn put_value<O: Sink>(alloc: Global, value: &Value, out: &mut O) -> Option<Ending>
+    ensures { MatchOption result (has_float (view value.now) ≡ false
+        → IsPutValue (view value.now) (O.written out.old) (O.written out.new)) (λ e. IsBroken e) }
+{
+    match frame_of(alloc, value) {
+        Ok(bytes) => {
+            let done = put_bytes(alloc, bytes.as_slice(), out);
+            done
+        }
+        Err(_) => Some(Ending::Memory),
     }
 }
 
@@ -42,10 +71,34 @@ pub fn put_refusal<O: Sink>(
     fault: Fault,
     message: &str,
     out: &mut O,
-) -> Option<Ending> {
+) -> Option<Ending>
+    ensures { MatchOption result
+        (has_float (refusal_of (option_map (λ i. view i.now) id.entry) fault message.now) ≡ false
+        → IsPutValue (refusal_of (option_map (λ i. view i.now) id.entry) fault message.now)
+        (O.written out.old) (O.written out.new)) (λ e. IsBroken e) }
+{
     match refusal(alloc, id, fault, message) {
-        Ok(value) => put_value(alloc, &value, out),
+        Ok(value) => {
+            let done = put_value(alloc, &value, out);
+            done
+        }
         Err(_) => Some(Ending::Memory),
+    }
+}
+
+/// Puts what comes of a message. Returns the ending, if the server ends with it.
+fn put_reply<O: Sink>(alloc: Global, reply: &Reply, out: &mut O) -> Option<Ending>
+    ensures { MatchOption result (IsPlainOut (out_of reply.now)
+        → IsPut (out_of reply.now) (O.written out.old) (O.written out.new))
+        (λ e. EndsWith (out_of reply.now) (O.written out.old) (O.written out.new) e) }
+{
+    match reply {
+        Reply::Nothing => None,
+        Reply::Sent(value) => {
+            let done = put_value(alloc, value, out);
+            done
+        }
+        Reply::Ended(status) => Some(Ending::Told(*status)),
     }
 }
 
@@ -61,16 +114,39 @@ fn take_body<O: Sink, L: Ledger>(
 ) -> Option<Ending>
     requires kind { HasKind language.now kind }
     requires quiet_kind { IsDeclaringPhylum language.now kind → ⊥ }
+    ensures { MatchOption result ((o : Out) × Answers language.now kind body.now server.old server.new o
+        × IsPut o (O.written out.old) (O.written out.new))
+        (λ e. Stops language.now kind server.old (O.written out.old) (O.written out.new) (body_event body.now) e) }
 {
     match server.answer(alloc, language, kind, body, steps) {
-        Ok(Reply::Nothing) => None,
-        Ok(Reply::Sent(value)) => put_value(alloc, &value, out),
-        Ok(Reply::Ended(status)) => Some(Ending::Told(status)),
+        Ok(reply) => {
+            let done = put_reply(alloc, &reply, out);
+            done
+        }
         Err(_) => Some(Ending::Memory),
     }
 }
 
-/// Takes a frame. Returns the ending, if the server ends with it: nothing can be followed after a frame that has no length.
+/// Puts the answer to a frame that is too long. Returns the ending where that fails.
+fn put_long<O: Sink>(alloc: Global, out: &mut O) -> Option<Ending>
+    ensures { MatchOption result (IsPutValue long_data (O.written out.old) (O.written out.new)) (λ e. IsBroken e) }
+{
+    let done = put_refusal(alloc, None, Fault::WrongShape, "this is too long", out);
+    done
+}
+
+/// Puts the answer to a frame that has no length, after which nothing can be followed. Returns the ending.
+fn put_lost<O: Sink>(alloc: Global, out: &mut O) -> Ending
+    ensures { (def : Plain) (kind : PlainKind) (server : PlainServer)
+        → Stops def kind server (O.written out.old) (O.written out.new) lost result }
+{
+    match put_refusal(alloc, None, Fault::NoJson, "this has no length", out) {
+        Some(ending) => ending,
+        None => Ending::ReadFault,
+    }
+}
+
+/// Takes a frame. Returns the ending, if the server ends with it.
 fn take_frame<O: Sink, L: Ledger>(
     alloc: Global,
     language: &Language,
@@ -82,16 +158,23 @@ fn take_frame<O: Sink, L: Ledger>(
 ) -> Option<Ending>
     requires kind { HasKind language.now kind }
     requires quiet_kind { IsDeclaringPhylum language.now kind → ⊥ }
+    ensures { MatchOption result
+        (IsTaken language.now kind server.old server.new (O.written out.old) (O.written out.new) (event_of frame.now))
+        (λ e. Stops language.now kind server.old (O.written out.old) (O.written out.new) (event_of frame.now) e) }
 {
     match frame {
         Frame::Body(body) => {
-            take_body(alloc, language, kind, server, body.as_slice(), out, steps)
+            let done = take_body(alloc, language, kind, server, body.as_slice(), out, steps);
+            done
         }
-        Frame::TooLong(_) => put_refusal(alloc, None, Fault::WrongShape, "this is too long", out),
-        Frame::Lost => match put_refusal(alloc, None, Fault::NoJson, "this has no length", out) {
-            Some(ending) => Some(ending),
-            None => Some(Ending::ReadFault),
-        },
+        Frame::TooLong(_) => {
+            let done = put_long(alloc, out);
+            done
+        }
+        Frame::Lost => {
+            let ending = put_lost(alloc, out);
+            Some(ending)
+        }
     }
 }
 
@@ -107,16 +190,80 @@ fn take_frames<O: Sink, L: Ledger>(
 ) -> Option<Ending>
     requires kind { HasKind language.now kind }
     requires quiet_kind { IsDeclaringPhylum language.now kind → ⊥ }
+    ensures { MatchOption result (AreTaken language.now kind server.old (O.written out.old) (map event_of frames.now)
+        server.new (O.written out.new))
+        (λ e. StopsWithin language.now kind server.old (O.written out.old) (O.written out.new) (map event_of frames.now) e) }
 {
-    for frame in frames {
-        if let Some(ending) = take_frame(alloc, language, kind, server, frame, out, steps) {
-            return Some(ending);
+    for place in 0..frames.len() {
+        match take_frame(alloc, language, kind, server, &frames[place], out, steps) {
+            Some(ending) => return Some(ending),
+            None => (),
         }
     }
     None
 }
 
-/// Answers the frames of the input until it ends, or the client ends the conversation.
+/// Takes the frames that are whole with the next piece. Returns the ending, if the server ends with one of them.
+fn take_piece<O: Sink, L: Ledger>(
+    alloc: Global,
+    language: &Language,
+    kind: Kind,
+    server: &mut Server,
+    reader: &mut FrameReader,
+    piece: &[u8],
+    out: &mut O,
+    steps: &mut Steps<L>,
+) -> Option<Ending>
+    requires kind { HasKind language.now kind }
+    requires quiet_kind { IsDeclaringPhylum language.now kind → ⊥ }
+    ensures { MatchOption result
+        (IsPieceTaken language.now kind server.old server.new reader.old reader.new piece.now
+        (O.written out.old) (O.written out.new))
+        (λ e. StopsAtPiece language.now kind server.old reader.old piece.now (O.written out.old) (O.written out.new) e) }
+{
+    match reader.read(alloc, piece) {
+        Ok(frames) => {
+            let done = take_frames(alloc, language, kind, server, frames.as_slice(), out, steps);
+            done
+        }
+        Err(_) => Some(Ending::Memory),
+    }
+}
+
+/// Takes the next piece of the input. Returns the ending, if the server ends with it.
+fn take_next<I: Pieces, O: Sink, L: Ledger>(
+    alloc: Global,
+    language: &Language,
+    kind: Kind,
+    server: &mut Server,
+    reader: &mut FrameReader,
+    input: &mut I,
+    out: &mut O,
+    steps: &mut Steps<L>,
+) -> Option<Ending>
+    requires kind { HasKind language.now kind }
+    requires quiet_kind { IsDeclaringPhylum language.now kind → ⊥ }
+    ensures { MatchOption result
+        (GoesOn language.now kind (place_at (I.left input.old) reader.old server.old (O.written out.old))
+        (place_at (I.left input.new) reader.new server.new (O.written out.new)))
+        (λ e. IsOver language.now kind (place_at (I.left input.old) reader.old server.old (O.written out.old))
+        (I.left input.new) (O.written out.new) e) }
+{
+    match input.next_piece(alloc, MOST_PIECE) {
+        Ok(piece) => {
+            if piece.is_empty() {
+                return Some(Ending::Told(0));
+            }
+            let bytes = piece.as_slice();
+            let done = take_piece(alloc, language, kind, server, reader, bytes, out, steps);
+            done
+        }
+        Err(stop) => Some(read_ending(stop)),
+    }
+}
+
+/// Answers the frames of the input until it ends, or the client ends the conversation. The end of the input is awaited for
+/// 2^64 - 1 pieces.
 pub fn talk<I: Pieces, O: Sink, L: Ledger>(
     alloc: Global,
     language: &Language,
@@ -127,31 +274,24 @@ pub fn talk<I: Pieces, O: Sink, L: Ledger>(
 ) -> Ending
     requires kind { HasKind language.now kind }
     requires quiet_kind { IsDeclaringPhylum language.now kind → ⊥ }
+    ensures { Talks language.now kind (I.left input.old) (I.left input.new) (O.written out.old) (O.written out.new) result }
 {
     let mut reader = FrameReader::new(alloc);
     let mut server = Server::new(alloc);
-    for _ in 0..u64::MAX {
-        let piece = match input.next_piece(alloc, MOST_PIECE) {
-            Ok(piece) => piece,
-            Err(stop) => return read_ending(stop),
-        };
-        if piece.is_empty() {
-            return Ending::Told(0);
-        }
-        let Ok(frames) = reader.read(alloc, piece.as_slice()) else {
-            return Ending::Memory;
-        };
-        if let Some(ending) = take_frames(
+    for _turn in 0..u64::MAX {
+        match take_next(
             alloc,
             language,
             kind,
             &mut server,
-            frames.as_slice(),
+            &mut reader,
+            input,
             out,
             steps,
         ) {
-            return ending;
+            Some(ending) => return ending,
+            None => (),
         }
     }
-    Ending::Told(0)
+    Ending::ReadFault
 }

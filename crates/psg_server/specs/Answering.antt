@@ -1,8 +1,11 @@
 -- What a body makes of the server, and what is sent: a case for each row of what is served. A server is where the
 -- conversation is, the encoding in which columns are counted, and the documents that are open.
-use Rattle.std.specs.Prelude.{ℕ, ◌≡◌, List, Option, Some, None, codes}
+use Rattle.std.specs.Prelude.{ℕ, ◌≡◌, ◌⊎◌, List, Option, Some, None, codes}
+use Rattle.std.specs.declared.result.Result.{Result}
+use Rattle.std.specs.declared.result.Result.TheVariants.{Ok, Err}
 use Rattle.serde_json.specs.Data.{Data, null}
 use Rattle.serde_json.specs.View.{view}
+use Rattle.serde_json.specs.declared.value.Value.{Value}
 use Rattle.psg_documents.specs.declared.encoding.Encoding.{Encoding}
 use Rattle.psg_documents.specs.declared.lines.Position.{Position}
 use Rattle.psg_grammar.specs.declared.types.Definition.{Definition}
@@ -13,6 +16,8 @@ use Rattle.psg_messages.specs.Turns.{due, passed, phase_after, refused, served, 
 use Rattle.psg_messages.specs.declared.turns.Fault.{Fault}
 use Rattle.psg_messages.specs.declared.turns.Fault.TheVariants as faults
 use Rattle.psg_server.specs.declared.documents.Document.{Document}
+use Rattle.psg_server.specs.declared.linking.Unnamed.{Unnamed}
+use Rattle.psg_server.specs.declared.methods.Ask.{Ask}
 use Rattle.psg_server.specs.declared.methods.Call.TheVariants as calls
 use Rattle.psg_server.specs.declared.methods.Notice.TheVariants as notices
 use Rattle.psg_server.specs.declared.server.Reply.{Reply}
@@ -22,8 +27,9 @@ use Rattle.psg_server.specs.Capabilities.{greeting_of}
 use Rattle.psg_server.specs.Diagnostics.{IsPublished, cleared_data}
 use Rattle.psg_server.specs.Documents.{Becomes, document_at}
 use Rattle.psg_server.specs.Edits.{IsFormattingOf}
-use Rattle.psg_server.specs.Fields.{address_in, changed_in, encoding_in, opened_in, position_in}
+use Rattle.psg_server.specs.Fields.{Renamed, address_in, changed_in, encoding_in, naming_in, opened_in, position_in, wants_declaring}
 use Rattle.psg_server.specs.Hovering.{IsToldIn}
+use Rattle.psg_server.specs.Linking.{IsNamedOf, IsRepliedOf, IsUnnamedOf, words_of}
 use Rattle.psg_server.specs.Methods.{call_of, is_known, notice_of}
 
 -- what comes of a message: nothing, a value that is sent, or the end with a status
@@ -47,6 +53,11 @@ reason_of faults.NotInitialized = codes "the conversation has not begun"
 
 abbrev pub refusal : Option Data → Fault → Out
 refusal id fault = sent (refusal_of id fault (reason_of fault))
+
+-- what is sent of a new name
+abbrev pub naming_out : Data → Result Value Unnamed → Out
+naming_out id (Ok value) = sent (answer_of id (view value))
+naming_out id (Err why) = sent (refusal_of (Some id) faults.WrongParams (words_of why))
 
 -- the document that the parameters name, if it is open
 abbrev pub open_at : Option (List ℕ) → List Document → Option Document
@@ -95,6 +106,27 @@ module _ (def : Definition) (kind : Kind) where
         → Serves old (request id method given) old.encoding old.documents (sent (answer_of id told))
     hovers_none : (id : Data) (method : List ℕ) (given : Given) → call_of method ≡ Some calls.Hover
         → place_in given old.documents ≡ None
+        → Serves old (request id method given) old.encoding old.documents (refusal (Some id) faults.WrongParams)
+    -- a question about the name at a position of a document that is open, and where there is none
+    asks : (id : Data) (method : List ℕ) (given : Given) (p : Place) (ask : Ask) (value : Data)
+        → call_of method ≡ Some (calls.Asking ask) → place_in given old.documents ≡ Some p
+        → IsRepliedOf def kind old.encoding p.document.address p.document.text ask (wants_declaring given) p.position value
+        → Serves old (request id method given) old.encoding old.documents (sent (answer_of id value))
+    asks_none : (id : Data) (method : List ℕ) (given : Given) (ask : Ask) → call_of method ≡ Some (calls.Asking ask)
+        → place_in given old.documents ≡ None
+        → Serves old (request id method given) old.encoding old.documents (refusal (Some id) faults.WrongParams)
+    -- `rename`, of a document that is open, where the name gets its new name, and where it can't; and where there is none
+    names : (id : Data) (method : List ℕ) (given : Given) (d : Document) (r : Renamed) (value : Data)
+        → call_of method ≡ Some calls.Renaming → open_in given old.documents ≡ Some d → naming_in given ≡ Some r
+        → IsNamedOf def kind old.encoding d.address d.text r value
+        → Serves old (request id method given) old.encoding old.documents (sent (answer_of id value))
+    names_not : (id : Data) (method : List ℕ) (given : Given) (d : Document) (r : Renamed) (why : Unnamed)
+        → call_of method ≡ Some calls.Renaming → open_in given old.documents ≡ Some d → naming_in given ≡ Some r
+        → IsUnnamedOf def kind old.encoding d.address d.text r why
+        → Serves old (request id method given) old.encoding old.documents
+        (sent (refusal_of (Some id) faults.WrongParams (words_of why)))
+    names_none : (id : Data) (method : List ℕ) (given : Given) → call_of method ≡ Some calls.Renaming
+        → (open_in given old.documents ≡ None) ⊎ (naming_in given ≡ None)
         → Serves old (request id method given) old.encoding old.documents (refusal (Some id) faults.WrongParams)
     -- `didOpen`
     opens : (method : List ℕ) (given : Given) (d : Document) (documents : List Document) (told : Data)

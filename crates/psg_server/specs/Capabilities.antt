@@ -8,8 +8,13 @@ use Rattle.psg_documents.specs.declared.encoding.Encoding.TheVariants as encodin
 abbrev pub sync : Data
 sync = object (member (codes "change") (number (unsigned 1)) (member (codes "openClose") (boolean true) no_members))
 
+-- a new name is prepared
+abbrev pub preparing : Data
+preparing = object (member (codes "prepareProvider") (boolean true) no_members)
+
 abbrev pub synced : Members
-synced = member (codes "textDocumentSync") sync no_members
+synced = member (codes "referencesProvider") (boolean true)
+    (member (codes "renameProvider") preparing (member (codes "textDocumentSync") sync no_members))
 
 -- with an encoding
 abbrev pub named : List ℕ → Members
@@ -21,10 +26,14 @@ with_encoding encodings.Utf8 = named (codes "utf-8")
 with_encoding encodings.Utf16 = synced
 with_encoding encodings.Utf32 = named (codes "utf-32")
 
+-- what the server can do, in the order of the names
+abbrev pub can : Members → Data
+can encoded = object (member (codes "definitionProvider") (boolean true)
+    (member (codes "documentFormattingProvider") (boolean true)
+    (member (codes "documentHighlightProvider") (boolean true) (member (codes "hoverProvider") (boolean true) encoded))))
+
 abbrev pub capabilities_of : Encoding → Data
-capabilities_of encoding =
-    object (member (codes "documentFormattingProvider") (boolean true)
-    (member (codes "hoverProvider") (boolean true) (with_encoding encoding)))
+capabilities_of encoding = can (with_encoding encoding)
 
 -- the answer to `initialize`
 abbrev pub greeting_with : Data → Data

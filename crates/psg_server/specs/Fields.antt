@@ -5,7 +5,7 @@ use Rattle.psg_documents.specs.declared.encoding.Encoding.{Encoding}
 use Rattle.psg_documents.specs.declared.encoding.Encoding.TheVariants as encodings
 use Rattle.psg_documents.specs.declared.lines.Position.{Position}
 use Rattle.serde_json.specs.Data.{Data, Items, no_items, item}
-use Rattle.serde_json.specs.Find.{as_array, as_i64, as_null, as_number, as_str, as_u64, get}
+use Rattle.serde_json.specs.Find.{as_array, as_bool, as_i64, as_null, as_number, as_str, as_u64, get}
 use Rattle.psg_messages.specs.Messages.{Given, nothing, fields, wrong_params}
 use Rattle.psg_server.specs.declared.documents.Document.{Document}
 
@@ -122,6 +122,35 @@ place_of given = member_in (codes "position") (fields_in given)
 abbrev pub position_in : Given → Option Position
 position_in given = position_by (number_in (member_in (codes "line") (place_of given)))
     (number_in (member_in (codes "character") (place_of given)))
+
+-- ---- what is asked of names
+
+abbrev pub flag_in : Option Data → Option Bool
+flag_in None = None
+flag_in (Some d) = as_bool d
+
+abbrev pub declaring_in : Given → Option Bool
+declaring_in given = flag_in (member_in (codes "includeDeclaration") (member_in (codes "context") (fields_in given)))
+
+-- names that declare are wanted too, unless the parameters say otherwise
+abbrev pub wants_declaring : Given → Bool
+wants_declaring given = unwrap_or (declaring_in given) true
+
+abbrev pub new_name_in : Given → Option (List ℕ)
+new_name_in given = text_in (member_in (codes "newName") (fields_in given))
+
+-- a position, and the new name of the name there
+pub record Renamed : Type 0 where
+  pub at : Position
+  pub name : List ℕ
+
+abbrev pub naming_by : Option Position → Option (List ℕ) → Option Renamed
+naming_by None name = None
+naming_by (Some at) None = None
+naming_by (Some at) (Some name) = Some (record { at = at; name = name })
+
+abbrev pub naming_in : Given → Option Renamed
+naming_in given = naming_by (position_in given) (new_name_in given)
 
 -- ---- the encoding in which columns are counted
 

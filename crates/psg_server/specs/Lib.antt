@@ -7,6 +7,7 @@ pub mod Edits
 pub mod Hovering
 pub mod Fields
 pub mod Kept
+pub mod Linking
 pub mod Methods
 pub mod Ranges
 pub mod Texts

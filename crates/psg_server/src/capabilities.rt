@@ -1,8 +1,7 @@
 //! What the server says of itself.
-ghost use Rattle.std.specs.Prelude.{◌≡◌, IfOk, codes, true};
-ghost use Rattle.serde_json.specs.Data.{boolean, member, object};
+ghost use Rattle.std.specs.Prelude.{◌≡◌, IfOk};
 ghost use Rattle.serde_json.specs.View.{view};
-ghost use Rattle.psg_server.specs.Capabilities.{capabilities_of, greeting_of, greeting_with, named, sync};
+ghost use Rattle.psg_server.specs.Capabilities.{can, capabilities_of, greeting_of, greeting_with, named, preparing, sync};
 
 use psg_documents::Encoding;
 use serde_json::{Value, json};
@@ -15,17 +14,28 @@ fn sync_value(alloc: Global) -> Result<Value, AllocError>
     json!(in alloc; {"openClose": true, "change": 1u8})
 }
 
+/// Returns what the server can do with new names.
+fn preparing_value(alloc: Global) -> Result<Value, AllocError>
+    ensures { IfOk result (λ v. view v ≡ preparing) }
+{
+    json!(in alloc; {"prepareProvider": true})
+}
+
 /// Returns what the server can do, with the name of the encoding.
 fn named_capabilities(alloc: Global, name: &str) -> Result<Value, AllocError>
-    ensures { IfOk result (λ v. view v ≡ object (member (codes "documentFormattingProvider") (boolean true)
-        (member (codes "hoverProvider") (boolean true) (named name.now)))) }
+    ensures { IfOk result (λ v. view v ≡ can (named name.now)) }
 {
     let sync = sync_value(alloc)?;
+    let preparing = preparing_value(alloc)?;
     json!(in alloc; {
         "textDocumentSync": sync,
         "positionEncoding": name,
         "documentFormattingProvider": true,
-        "hoverProvider": true
+        "hoverProvider": true,
+        "definitionProvider": true,
+        "referencesProvider": true,
+        "documentHighlightProvider": true,
+        "renameProvider": preparing
     })
 }
 
@@ -34,7 +44,16 @@ fn plain_capabilities(alloc: Global) -> Result<Value, AllocError>
     ensures { IfOk result (λ v. view v ≡ capabilities_of Encoding.Utf16) }
 {
     let sync = sync_value(alloc)?;
-    json!(in alloc; {"textDocumentSync": sync, "documentFormattingProvider": true, "hoverProvider": true})
+    let preparing = preparing_value(alloc)?;
+    json!(in alloc; {
+        "textDocumentSync": sync,
+        "documentFormattingProvider": true,
+        "hoverProvider": true,
+        "definitionProvider": true,
+        "referencesProvider": true,
+        "documentHighlightProvider": true,
+        "renameProvider": preparing
+    })
 }
 
 /// Returns what the server can do.

@@ -80,7 +80,7 @@ fn marked(bytes: &[u8]) -> usize
 }
 
 /// Returns the byte of the whole text, which may have a byte order mark in front of what was judged.
-fn byte_in(text: &[u8], byte: usize) -> usize
+pub(crate) fn byte_in(text: &[u8], byte: usize) -> usize
     ensures is { result ≡ byte_in text.now byte }
     ensures within { result ≤ length text.now }
 {

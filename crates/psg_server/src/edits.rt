@@ -123,7 +123,7 @@ fn text_between(bytes: &[u8], from: usize, to: usize) -> &str
 }
 
 /// Returns the edit that puts a text in place of a range.
-fn edit_of(alloc: Global, range: Value, new: &str) -> Result<Value, AllocError>
+pub(crate) fn edit_of(alloc: Global, range: Value, new: &str) -> Result<Value, AllocError>
     ensures { IfOk result (λ v. view v ≡ edit_data (view range) new.now) }
 {
     json!(in alloc; {"range": range, "newText": new})

@@ -9,7 +9,7 @@ ghost use Rattle.psg_server.specs.Fields.{address_in, changes_in, document_in, e
 ghost use Rattle.psg_server.specs.Fields.{is_part, is_text, last_in, last_of, offered_in, offers, opened_in, opened_text_in};
 ghost use Rattle.psg_server.specs.Fields.{text_in, version_in, whole_in, whole_text};
 ghost use Rattle.psg_server.specs.Fields as fields;
-ghost use Rattle.psg_server.specs.Told.{document_of};
+ghost use Rattle.psg_server.specs.Told.{document_of, naming_of};
 
 use psg_documents::{Encoding, Position};
 use psg_messages::Params;
@@ -21,6 +21,13 @@ pub struct Told<'a> {
     pub address: &'a str,
     pub version: i64,
     pub text: &'a str,
+}
+
+/// What `rename` says: a position, and the new name of the name there.
+#[derive(Clone, Copy)]
+pub struct Naming<'a> {
+    pub at: Position,
+    pub name: &'a str,
 }
 
 /// Returns the object of the parameters.
@@ -195,6 +202,44 @@ pub(crate) fn position_in(given: Params<'_>) -> Option<Position>
         line: line as usize,
         column: column as usize,
     })
+}
+
+/// Returns what the parameters say of names that declare.
+fn declaring_in(given: Params<'_>) -> Option<bool>
+    ensures { result ≡ fields.declaring_in (given_of given.entry) }
+{
+    let fields = fields_in(given)?;
+    let context = fields.get("context")?;
+    let wanted = context.get("includeDeclaration")?;
+    wanted.as_bool()
+}
+
+/// Says whether names that declare are wanted too, which they are unless the parameters say otherwise.
+pub(crate) fn wants_declaring(given: Params<'_>) -> bool
+    ensures { result ≡ fields.wants_declaring (given_of given.entry) }
+{
+    match declaring_in(given) {
+        Some(wanted) => wanted,
+        None => true,
+    }
+}
+
+/// Returns the new name that the parameters have.
+fn new_name_in<'a>(given: Params<'a>) -> Option<&'a str>
+    ensures { option_map (λ s. s.now) result ≡ fields.new_name_in (given_of given.entry) }
+{
+    let fields = fields_in(given)?;
+    let name = fields.get("newName")?;
+    name.as_str()
+}
+
+/// Returns the position that the parameters name, and the new name.
+pub(crate) fn naming_in<'a>(given: Params<'a>) -> Option<Naming<'a>>
+    ensures { option_map naming_of result ≡ fields.naming_in (given_of given.entry) }
+{
+    let at = position_in(given)?;
+    let name = new_name_in(given)?;
+    Some(Naming { at, name })
 }
 
 /// Says whether the value is this text.

@@ -18,7 +18,9 @@ mod edits;
 mod fields;
 mod hovering;
 mod laws;
+mod linking;
 mod methods;
+mod names;
 mod ranges;
 mod server;
 

@@ -1,9 +1,22 @@
 //! The methods of the messages that the server has.
 ghost use Rattle.std.specs.Prelude.{◌≡◌};
 ghost use Rattle.psg_messages.specs.Messages.{said_of};
-ghost use Rattle.psg_server.specs.Methods.{call_of, is_known, notice_of};
+ghost use Rattle.psg_server.specs.Methods.{ask_of, call_of, is_known, notice_of};
 
 use psg_messages::Message;
+
+/// A question about the name at a position of a document.
+#[derive(Clone, Copy, Debug, PartialEq, Eq)]
+pub enum Ask {
+    /// `textDocument/definition`
+    Definition,
+    /// `textDocument/references`
+    References,
+    /// `textDocument/documentHighlight`
+    Highlights,
+    /// `textDocument/prepareRename`
+    Preparing,
+}
 
 /// A request that the server has.
 #[derive(Clone, Copy, Debug, PartialEq, Eq)]
@@ -16,6 +29,10 @@ pub enum Call {
     Formatting,
     /// `textDocument/hover`
     Hover,
+    /// A question about the name at a position.
+    Asking(Ask),
+    /// `textDocument/rename`
+    Renaming,
 }
 
 /// A note that the server has.
@@ -31,6 +48,23 @@ pub enum Notice {
     Exit,
 }
 
+/// Returns the question of the name, if the server has one.
+fn ask_of(method: &str) -> Option<Ask>
+    ensures { result ≡ ask_of method.now }
+{
+    if method == "textDocument/definition" {
+        Some(Ask::Definition)
+    } else if method == "textDocument/references" {
+        Some(Ask::References)
+    } else if method == "textDocument/documentHighlight" {
+        Some(Ask::Highlights)
+    } else if method == "textDocument/prepareRename" {
+        Some(Ask::Preparing)
+    } else {
+        None
+    }
+}
+
 /// Returns the request of the name, if the server has one.
 pub(crate) fn call_of(method: &str) -> Option<Call>
     ensures { result ≡ call_of method.now }
@@ -43,8 +77,13 @@ pub(crate) fn call_of(method: &str) -> Option<Call>
         Some(Call::Formatting)
     } else if method == "textDocument/hover" {
         Some(Call::Hover)
+    } else if method == "textDocument/rename" {
+        Some(Call::Renaming)
     } else {
-        None
+        match ask_of(method) {
+            Some(ask) => Some(Call::Asking(ask)),
+            None => None,
+        }
     }
 }
 

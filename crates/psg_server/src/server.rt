@@ -56,15 +56,15 @@ pub enum Reply {
 #[derive(Drop)]
 pub struct Server {
     phase: Phase,
-    encoding: Encoding,
+    pub(crate) encoding: Encoding,
     documents: Documents,
 }
 
 /// A position of a document.
 #[derive(Clone, Copy)]
-struct Place<'a> {
-    document: &'a Document,
-    position: Position,
+pub(crate) struct Place<'a> {
+    pub(crate) document: &'a Document,
+    pub(crate) position: Position,
 }
 
 /// Returns the words for the fault.
@@ -81,7 +81,7 @@ fn reason(fault: Fault) -> &'static str
 }
 
 /// Returns the answer to a message that is refused.
-fn refused(alloc: Global, id: Option<&Value>, fault: Fault) -> Result<Reply, AllocError>
+pub(crate) fn refused(alloc: Global, id: Option<&Value>, fault: Fault) -> Result<Reply, AllocError>
     ensures { IfOk result (λ r. out_of r ≡ answering.refusal (option_map (λ i. view i.now) id.entry) fault) }
 {
     let value = refusal(alloc, id, fault, reason(fault))?;
@@ -89,7 +89,7 @@ fn refused(alloc: Global, id: Option<&Value>, fault: Fault) -> Result<Reply, All
 }
 
 /// Returns the answer to a request.
-fn answered(alloc: Global, id: &Value, value: Value) -> Result<Reply, AllocError>
+pub(crate) fn answered(alloc: Global, id: &Value, value: Value) -> Result<Reply, AllocError>
     ensures { IfOk result (λ r. out_of r ≡ answering.sent (answer_of (view id.now) (view value))) }
 {
     let value = answer(alloc, id, value)?;
@@ -175,7 +175,7 @@ impl Server {
     }
 
     /// Returns the document that the parameters name, if it is open.
-    fn open_in(&self, given: Params<'_>) -> Option<&Document>
+    pub(crate) fn open_in(&self, given: Params<'_>) -> Option<&Document>
         ensures { option_map (λ d. d.now) result ≡ answering.open_in (given_of given.entry) self.now.documents }
     {
         let address = address_in(given)?;
@@ -247,7 +247,7 @@ impl Server {
     }
 
     /// Returns the position of an open document that the parameters name.
-    fn place_in(&self, given: Params<'_>) -> Option<Place<'_>>
+    pub(crate) fn place_in(&self, given: Params<'_>) -> Option<Place<'_>>
         ensures { option_map (λ p. place_of p) result ≡ answering.place_in (given_of given.entry) self.now.documents }
     {
         let document = self.open_in(given)?;
@@ -326,6 +326,14 @@ impl Server {
             }
             Call::Hover => {
                 let reply = self.hover(alloc, language, kind, id, given, steps)?;
+                Ok(reply)
+            }
+            Call::Asking(ask) => {
+                let reply = self.ask(alloc, language, kind, ask, id, given, steps)?;
+                Ok(reply)
+            }
+            Call::Renaming => {
+                let reply = self.rename(alloc, language, kind, id, given, steps)?;
                 Ok(reply)
             }
         }
