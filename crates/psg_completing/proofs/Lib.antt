@@ -7,3 +7,4 @@ pub mod Completions
 pub mod Pieces
 pub mod Listing
 pub mod Slots
+pub mod Levels

@@ -24,7 +24,7 @@ use Rattle.psg_completing.specs.declared.fillings.Side.{Side}
 use Rattle.psg_pointing.specs.declared.judging.Judged.{Judged}
 use Rattle.psg_completing.specs.declared.offering.Entry.{Entry}
 use Rattle.psg_completing.specs.declared.offering.Offers.{Offers}
-use Rattle.psg_completing.specs.Around.{IsWordAround}
+use Rattle.psg_completing.specs.Around.{IsWordAround, is_word}
 use Rattle.psg_completing.specs.Fillings.{Fits, HasPlaceholder, IsFirst, back, before, behind, filled, fillings, front}
 use Rattle.psg_completing.specs.Fillings.{mark_byte}
 use Rattle.psg_pointing.specs.Hovering.{lines_of, mark_size, own_byte, spot_at}
@@ -109,25 +109,26 @@ AreOffersIn def kind tree path prefix offers =
 
 -- ---- what is put
 
-abbrev pub is_symbol_byte : Option ℕ → Bool
-is_symbol_byte None = false
-is_symbol_byte (Some b) = is_symbol b
+-- a byte that runs together with one beside it: a symbol, or a byte of a word
+abbrev pub is_close : Option ℕ → Bool
+is_close None = false
+is_close (Some b) = is_symbol b || is_word b
 
--- the byte at the place, and the one before it, is a symbol
-abbrev pub is_symbol_at : List ℕ → ℕ → Bool
-is_symbol_at text place = is_symbol_byte (slice_get text place)
+-- the byte at the place, and the one before it, is such a byte
+abbrev pub is_close_at : List ℕ → ℕ → Bool
+is_close_at text place = is_close (slice_get text place)
 
-abbrev pub is_symbol_before : List ℕ → ℕ → Bool
-is_symbol_before text zero = false
-is_symbol_before text (suc place) = is_symbol_at text place
+abbrev pub is_close_before : List ℕ → ℕ → Bool
+is_close_before text zero = false
+is_close_before text (suc place) = is_close_at text place
 
--- What is put before a text in place of a word, and after it. A space is where a symbol is beside it, so that the two do
--- not run together.
+-- What is put before a text in place of a word, and after it. A space is where a symbol or a byte of a word is beside it,
+-- so that the two do not run together.
 abbrev pub put_before : Definition → List ℕ → Word → Side → List ℕ
-put_before def own w side = cond (is_symbol_before own w.from) (front def side) (before def side)
+put_before def own w side = cond (is_close_before own w.from) (front def side) (before def side)
 
 abbrev pub put_behind : Definition → List ℕ → Word → Side → List ℕ
-put_behind def own w side = cond (is_symbol_at own w.to) (back def side) (behind def side)
+put_behind def own w side = cond (is_close_at own w.to) (back def side) (behind def side)
 
 -- what the names begin with: the word, unless it has a `?` in front of it
 abbrev pub prefix_of : List ℕ → Word → List ℕ

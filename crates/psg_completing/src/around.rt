@@ -15,7 +15,7 @@ pub struct Word {
 }
 
 /// Says whether the byte is one of a word.
-fn is_word(byte: u8) -> bool
+pub(crate) fn is_word(byte: u8) -> bool
     ensures { result ≡ around.is_word byte }
 {
     (48 <= byte && byte <= 57)

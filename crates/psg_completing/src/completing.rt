@@ -1,14 +1,15 @@
 //! What may be put in place of the word at a byte of a text.
-ghost use Rattle.std.specs.Prelude.{◌≡◌, ◌≤◌, IfOk, Some, length};
+ghost use Rattle.std.specs.Prelude.{◌≡◌, ◌≤◌, ◌||◌, IfOk, Some, length};
 ghost use Rattle.psg_asking.specs.Asked.{IsKnown};
 ghost use Rattle.psg_cache.specs.Annotated.{tree_in};
 ghost use Rattle.psg_completing.specs.Fillings.{Fits, IsFirst, fillings as all_fillings};
 ghost use Rattle.psg_completing.specs.Fitted.{IsFitted};
 ghost use Rattle.psg_completing.specs.Offering as offered;
 ghost use Rattle.psg_completing.specs.Offering.{IsCompletion};
+ghost use Rattle.psg_completing.specs.Around.{is_word as is_word_of};
 ghost use Rattle.psg_lexis.specs.Classes.{is_symbol as is_symbol_of};
 
-use crate::around::{Word, word_around};
+use crate::around::{Word, is_word, word_around};
 use crate::fillings::{Side, before, behind};
 use crate::fitting::{Fitted, first_fit};
 use crate::offering::{Entry, Offers, Open, offers_at};
@@ -55,24 +56,31 @@ fn is_symbol(byte: u8) -> bool
     "+-*/%<>=!&|^~:.@#$".as_bytes().iter().any(|symbol| byte == *symbol)
 }
 
-/// Says whether a symbol is at the place.
-fn is_symbol_at(text: &[u8], place: usize) -> bool
-    ensures { result ≡ offered.is_symbol_at text.now place }
+/// Says whether the byte runs together with one beside it.
+fn is_close(byte: u8) -> bool
+    ensures { result ≡ (is_symbol_of byte || is_word_of byte) }
+{
+    is_symbol(byte) || is_word(byte)
+}
+
+/// Says whether a byte that runs together with others is at the place.
+fn is_close_at(text: &[u8], place: usize) -> bool
+    ensures { result ≡ offered.is_close_at text.now place }
 {
     match text.get(place) {
-        Some(byte) => is_symbol(*byte),
+        Some(byte) => is_close(*byte),
         None => false,
     }
 }
 
-/// Says whether a symbol is before the place.
-fn is_symbol_before(text: &[u8], place: usize) -> bool
-    ensures { result ≡ offered.is_symbol_before text.now place }
+/// Says whether such a byte is before the place.
+fn is_close_before(text: &[u8], place: usize) -> bool
+    ensures { result ≡ offered.is_close_before text.now place }
 {
-    if place == 0 {
-        return false;
+    match place.checked_sub(1) {
+        Some(last) => is_close_at(text, last),
+        None => false,
     }
-    is_symbol_at(text, place - 1)
 }
 
 /// Returns what is put before a text in place of the word.
@@ -86,8 +94,8 @@ fn put_before(
     ensures { IfOk result (λ text. text ≡ offered.put_before definition.now own.now word side) }
 {
     let text = before(alloc, definition, side)?;
-    let symbol = is_symbol_before(own, word.from);
-    if symbol {
+    let close = is_close_before(own, word.from);
+    if close {
         let mut spaced = String::from_str(alloc, " ")?;
         spaced.push_str(text.as_str())?;
         let put = Txt::of(alloc, spaced)?;
@@ -108,8 +116,8 @@ fn put_behind(
     ensures { IfOk result (λ text. text ≡ offered.put_behind definition.now own.now word side) }
 {
     let mut text = behind(alloc, definition, side)?;
-    let symbol = is_symbol_at(own, word.to);
-    if symbol {
+    let close = is_close_at(own, word.to);
+    if close {
         text.push(' ')?;
     }
     let put = Txt::of(alloc, text)?;

@@ -1,7 +1,8 @@
 //! The level that is wanted at a path.
-ghost use Rattle.std.specs.Prelude.{ℕ, ◌≡◌, ◌-◌, ◌==◌, ◌&&◌, IfNone, IfOk, IfSome, cond};
-ghost use Rattle.std.specs.Option.{option_copied};
+ghost use Rattle.std.specs.Prelude.{ℕ, ◌≡◌, ◌-◌, ◌==◌, ◌&&◌, IfNone, IfOk, IfSome, Some, cond};
+ghost use Rattle.psg_grammar.specs.Fragments.{top_operator};
 ghost use Rattle.psg_grammar.specs.Levels as levels;
+ghost use Rattle.psg_grammar.specs.Lookups.{operator_at};
 ghost use Rattle.psg_grammar.specs.Sound.{IsLevel, IsSound};
 ghost use Rattle.psg_completing.specs.Samples.{IsLeast};
 ghost use Rattle.psg_completing.specs.Wanted.{IsLeastUnder, IsSlotOf};
@@ -67,12 +68,23 @@ fn least_in(operator: &Operator, number: u32) -> u8
     }
 }
 
-/// Returns the operator at the top of the node, if it is one.
-fn operator_of<'d>(definition: &'d Definition, node: &Tree) -> Option<&'d Operator>
-    ensures { option_copied result ≡ operator_of_fragment definition.now node.now }
+/// Returns the least level of the slot of the number of the operator of a number; 0 where there is no such slot.
+fn least_of(definition: &Definition, op: u32, number: u32) -> u8
+    requires { IsSound definition.now }
+    ensures { IsLeastUnder number (operator_at definition.now op) result }
+{
+    match definition.operators.as_slice().get(op as usize) {
+        Some(operator) => least_in(operator, number),
+        None => 0,
+    }
+}
+
+/// Returns the operator at the top of the node, if there is one.
+fn op_of(node: &Tree) -> Option<u32>
+    ensures { result ≡ top_operator node.now }
 {
     match node.shape() {
-        Shape::Op { op, .. } => definition.operators.as_slice().get(*op as usize),
+        Shape::Op { op, .. } => Some(*op),
         Shape::List { .. } => None,
         Shape::Hole { .. } => None,
     }
@@ -83,8 +95,8 @@ fn least_under(definition: &Definition, node: &Tree, number: u32) -> u8
     requires { IsSound definition.now }
     ensures { IsLeastUnder number (operator_of_fragment definition.now node.now) result }
 {
-    match operator_of(definition, node) {
-        Some(operator) => least_in(operator, number),
+    match op_of(node) {
+        Some(op) => least_of(definition, op, number),
         None => 0,
     }
 }
