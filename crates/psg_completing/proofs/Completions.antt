@@ -50,7 +50,7 @@ module _ (def : Definition) (kind : Kind) (own : List ℕ) (w : Word) (from to :
       (tree_in j.note) fit.path
   placed fit is j same =
       subst (λ f. HasPlaceholder def kind (filled def own w fit.filling) (mark_byte def w fit.filling)
-          fit.filling.phylum f fit.path) (sym same) (placed_by def kind own w fit.filling fit is)
+      fit.filling.phylum f fit.path) (sym same) (placed_by def kind own w fit.filling fit is)
 
   pub completed_offers : (fit : Fitted) → IsFitted def kind own w fit.filling fit
       → IsFirst (Fits def kind own w) (fillings def) (Some fit.filling) → (j : Judged)

@@ -31,8 +31,8 @@ pub sample_first : (def : Definition) (name : Name) (op : ℕ) (o : Operator) (i
 sample_first def name op o items parts is i none =
     ap (λ ps. with_samples def name (with_parts (operator op) ps) items) none
     ∙ ap (with_samples def name (operator op)) (i ∙ own_items) where
-    own_items : o.items ≡ items_in (operator_at def op)
-    own_items = sym (ap items_in is)
+      own_items : o.items ≡ items_in (operator_at def op)
+      own_items = sym (ap items_in is)
 
 pub sample_next : (def : Definition) (name : Name) (op : ℕ) (items : List Item) (i : ℕ) (item : Item)
     (old new : List Part) (whole : Fragment) → i < length items → item ≡ get_or items i item

@@ -60,8 +60,10 @@ slot_here o row i x number left slot same lt is so due h =
     let (kind, own) = slot_is x (sym so ∙ one) in
     let zero_left : left ≡ 0 = eqb-true left 0 none in
     record {
-      is_slot_there = (kind,
-        ap (λ l. slice_get l i) (sym same) ∙ slice_get-get_or row i x lt ∙ ap Some (sym is ∙ own));
+      is_slot_there = (
+        kind,
+        ap (λ l. slice_get l i) (sym same) ∙ slice_get-get_or row i x lt ∙ ap Some (sym is ∙ own),
+      );
       many_before = ap (λ l. count_by is_slot (take i l)) (sym same) ∙ omega (arith, h, zero_left);
     }
 

@@ -20,5 +20,5 @@ returns-in_ok-empty-in-None g c =
     completed_none c.args.language.now c.args.kind c.args.own.now c.args.target.word c.args.target.from c.args.target.to
     c.in_ok-empty-in-None.empty
     (subst (λ o. IsFirst (Fits c.args.language.now c.args.kind c.args.own.now c.args.target.word)
-        (fillings c.args.language.now) (filling_in o)) c.in-None.is c.in_ok-found.ensures.first)
+    (fillings c.args.language.now) (filling_in o)) c.in-None.is c.in_ok-found.ensures.first)
     c.in_ok-empty-in-None.ensures

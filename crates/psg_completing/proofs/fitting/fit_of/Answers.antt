@@ -9,7 +9,7 @@ pub returns-in-Some-clause-some : goal.returns-in-Some-clause-some
 returns-in-Some-clause-some g c =
     fitted_is c.args.language.now c.class_of.ensures c.args.kind c.args.own.now c.args.word c.args.filling _ _
     (c.as_slice-bytes.ensures.value ∙ c.in_ok-trial.ensures.text
-      ∙ ap (λ d. filled d c.args.own.now c.args.word c.args.filling) c.definition-definition.ensures.same)
+    ∙ ap (λ d. filled d c.args.own.now c.args.word c.args.filling) c.definition-definition.ensures.same)
     (c.in_ok-trial.ensures.byte ∙ ap (λ d. mark_byte d c.args.word c.args.filling) c.definition-definition.ensures.same)
     c.in-Some.program
     (some_in (IsRead c.args.language.now c.args.kind c.as_slice-bytes.result.now) c.in_ok-found.found c.in-Some.program
@@ -20,7 +20,7 @@ pub returns-in-Some-clause-none : goal.returns-in-Some-clause-none
 returns-in-Some-clause-none g c =
     none_fitted c.args.language.now c.class_of.ensures c.args.kind c.args.own.now c.args.word c.args.filling _ _
     (c.as_slice-bytes.ensures.value ∙ c.in_ok-trial.ensures.text
-      ∙ ap (λ d. filled d c.args.own.now c.args.word c.args.filling) c.definition-definition.ensures.same)
+    ∙ ap (λ d. filled d c.args.own.now c.args.word c.args.filling) c.definition-definition.ensures.same)
     (c.in_ok-trial.ensures.byte ∙ ap (λ d. mark_byte d c.args.word c.args.filling) c.definition-definition.ensures.same)
     c.in-Some.program
     (some_in (IsRead c.args.language.now c.args.kind c.as_slice-bytes.result.now) c.in_ok-found.found c.in-Some.program
@@ -32,6 +32,6 @@ returns-clause-none g c =
     none_there c.args.language.now c.class_of.ensures c.args.kind c.args.own.now c.args.word c.args.filling
     c.as_slice-bytes.result.now c.in_ok-trial.trial.byte
     (c.as_slice-bytes.ensures.value ∙ c.in_ok-trial.ensures.text
-      ∙ ap (λ d. filled d c.args.own.now c.args.word c.args.filling) c.definition-definition.ensures.same)
+    ∙ ap (λ d. filled d c.args.own.now c.args.word c.args.filling) c.definition-definition.ensures.same)
     (c.in_ok-trial.ensures.byte ∙ ap (λ d. mark_byte d c.args.word c.args.filling) c.definition-definition.ensures.same)
     (none_in _ c.in_ok-found.found c.in-None.is c.in_ok-found.ensures.none)
