@@ -1,7 +1,6 @@
 -- The word around a byte, place by place.
-use Rattle.std.proofs.Common.{◌≡◌, ◌<◌, ◌≤◌, ◌⊎◌, inl, inr, Bool, true, false, ℕ, zero, suc, List, length, Option, Some, None, slice_get, refl, sym, ap, subst, ◌∙◌, arith}
-use Rattle.std.proofs.lemmas.Bool.{cases_lt, eqb-true, false≢true, true≢false}
-use Rattle.psg_completing.specs.declared.around.Word.{Word}
+use Rattle.std.proofs.Common.{◌≡◌, ◌<◌, ◌≤◌, inl, inr, Bool, true, false, ℕ, suc, List, Option, Some, None, slice_get, refl, ap, subst, ◌∙◌, arith}
+use Rattle.std.proofs.lemmas.Bool.{cases_lt, eqb-true}
 use Rattle.psg_completing.specs.Around.{IsRun, IsWordAround, marked, marked_here, unmarked, is_mark_at, is_mark_before, is_mark_byte, is_word, is_word_at, is_word_before, is_word_byte}
 
 -- one more place before the words

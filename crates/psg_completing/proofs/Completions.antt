@@ -1,5 +1,5 @@
 -- What may be put in place of a word, by the program that was read with a filling.
-use Rattle.std.proofs.Common.{◌≡◌, ◌+◌, ℕ, List, Option, Some, None, refl, sym, ap, subst, ◌∙◌}
+use Rattle.std.proofs.Common.{◌≡◌, ◌+◌, ℕ, List, Some, None, refl, sym, ap, subst, ◌∙◌}
 use Rattle.psg_cache.specs.Annotated.{tree_in}
 use Rattle.psg_grammar.specs.declared.types.Definition.{Definition}
 use Rattle.psg_grammar.specs.declared.types.Kind.{Kind}

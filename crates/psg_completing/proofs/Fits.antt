@@ -1,6 +1,6 @@
 -- A text that was read with a filling.
-use Rattle.std.proofs.Common.{◌≡◌, ◌≤◌, ◌+◌, ◌⊎◌, inl, inr, Bool, true, false, ℕ, List, [], ◌∷◌, drop, chars, length, slice_get, Option, Some, None, IsTrue, IsUtf8, refl, sym, ap, subst, ◌∙◌, arith}
-use Rattle.std.specs.Prelude.{◌↔◌, IfNone, IfSome, Vec}
+use Rattle.std.proofs.Common.{◌≡◌, ◌≤◌, ◌+◌, inl, inr, Bool, true, false, ℕ, List, [], ◌∷◌, drop, chars, length, slice_get, Option, Some, None, IsUtf8, refl, sym, ap, subst, ◌∙◌, arith}
+use Rattle.std.specs.Prelude.{IfNone, IfSome, Vec}
 use Rattle.std.specs.Str.{IsValidUpTo}
 use Rattle.std.specs.declared.alloc.Global.{Global}
 use Rattle.std.proofs.lemmas.List.{drop_all, take_all}
@@ -15,7 +15,7 @@ use Rattle.psg_grammar.specs.Sizes.{IsBig, IsDeep}
 use Rattle.psg_grammar.specs.WellFormed.{WellFormed, fixed_words}
 use Rattle.psg_class.specs.Class.{IsClass}
 use Rattle.psg_class.specs.Only.{IsOnly}
-use Rattle.psg_class.specs.Texts.{ReadsAs, TextTokens, tokens_of}
+use Rattle.psg_class.specs.Texts.{TextTokens, tokens_of}
 use Rattle.psg_class.specs.Yields.{Yields}
 use Rattle.psg_class.proofs.Law.{only_trees}
 use Rattle.psg_lexis.specs.declared.token.Spanned.{Spanned}
@@ -27,7 +27,7 @@ use Rattle.psg_parse.specs.declared.fault.Goal.{Goal}
 use Rattle.psg_parse.specs.declared.fault.ParseFault.{ParseFault}
 use Rattle.psg_parse.specs.declared.fault.ParseFault.TheVariants as faults
 use Rattle.psg_program.specs.declared.reading.Program.{Program}
-use Rattle.psg_program.specs.Programs.{IsProgramText, IsReadFrom, goal_of}
+use Rattle.psg_program.specs.Programs.{IsProgramText, goal_of}
 use Rattle.psg_ranges.specs.declared.ranges.Range.{Range}
 use Rattle.psg_tree.specs.declared.tree.Part.{Part}
 use Rattle.psg_tree.specs.declared.tree.Part.TheVariants.{Sub, Name, Number, Text}

@@ -1,5 +1,5 @@
 -- The text with a filling, piece by piece.
-use Rattle.std.proofs.Common.{◌≡◌, ◌≤◌, ◌+◌, ℕ, suc, List, [], ◌∷◌, ◌++◌, drop, length, take, sym, ap, ◌∙◌, refl, arith}
+use Rattle.std.proofs.Common.{◌≡◌, ◌≤◌, ◌+◌, ℕ, List, [], ◌∷◌, ◌++◌, drop, length, take, sym, ap, ◌∙◌, refl, arith}
 use Rattle.std.proofs.lemmas.List.{append_assoc, length-append, length-take-le}
 use Rattle.psg_grammar.specs.declared.types.Definition.{Definition}
 use Rattle.psg_tree.specs.AbstractText.{phylum_name}

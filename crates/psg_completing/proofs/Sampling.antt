@@ -1,8 +1,7 @@
 -- What an entry writes, part by part.
-use Rattle.std.proofs.Common.{◌≡◌, ◌<◌, ◌≤◌, ◌+◌, ℕ, List, [], ◌∷◌, ◌++◌, drop, length, Option, Some, None, refl, sym, ap, ◌∙◌}
+use Rattle.std.proofs.Common.{◌≡◌, ◌<◌, ◌≤◌, ◌+◌, ℕ, List, [], ◌∷◌, ◌++◌, drop, length, Some, refl, sym, ap, ◌∙◌}
 use Rattle.std.specs.Prelude.{get_or}
-use Rattle.std.specs.Str.{trim}
-use Rattle.std.proofs.lemmas.List.{append-nil, append_assoc, drop_all}
+use Rattle.std.proofs.lemmas.List.{drop_all}
 use Rattle.psg_terms.specs.Names.{Name}
 use Rattle.psg_terms.proofs.Lists.{drop_item}
 use Rattle.psg_grammar.specs.declared.types.Definition.{Definition}

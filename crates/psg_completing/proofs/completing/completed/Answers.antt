@@ -1,4 +1,4 @@
-use Rattle.std.proofs.Common.{Some, None, subst}
+use Rattle.std.proofs.Common.{subst}
 use Rattle.psg_completing.specs.Fillings.{Fits, IsFirst, fillings}
 use Rattle.psg_completing.specs.Fitted.{IsFitted, filling_in}
 use Rattle.psg_completing.proofs.Completions.{completed_none}

@@ -1,4 +1,4 @@
-use Rattle.std.proofs.Common.{Some, None, ap, subst, ◌∙◌, ◌≡◌}
+use Rattle.std.proofs.Common.{ap, subst, ◌∙◌, ◌≡◌}
 use Rattle.psg_cache.specs.Annotated.{tree_in}
 use Rattle.psg_completing.specs.Fillings.{filled}
 use Rattle.psg_pointing.specs.Judging.{IsKnownOf}

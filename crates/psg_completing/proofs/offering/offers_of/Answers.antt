@@ -1,4 +1,4 @@
-use Rattle.std.proofs.Common.{Some, ap, subst, sym, ◌∙◌, ◌≡◌}
+use Rattle.std.proofs.Common.{Some, subst, sym, ◌≡◌}
 use Rattle.psg_cache.specs.Annotated.{tree_in}
 use Rattle.psg_grammar.specs.Kinds.{op_name_of}
 use Rattle.psg_grammar.specs.Sound.{IsSound}

@@ -1,4 +1,4 @@
-use Rattle.std.proofs.Common.{Some, ap, subst, sym, ◌∙◌, ◌≡◌}
+use Rattle.std.proofs.Common.{ap, sym, ◌∙◌}
 use Rattle.psg_cache.specs.Annotated.{tree_in}
 use Rattle.psg_grammar.specs.Lookups.{operator_at}
 use Rattle.psg_keymap.specs.Leaves.{leaves_of}

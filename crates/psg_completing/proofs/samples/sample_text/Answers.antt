@@ -1,8 +1,7 @@
-use Rattle.std.proofs.Common.{Some, ap, ap₂, sym, ◌∙◌}
-use Rattle.psg_grammar.specs.declared.types.Operator.{Operator}
+use Rattle.std.proofs.Common.{ap, ap₂, sym, ◌∙◌}
 use Rattle.psg_unparse.specs.Layout.{text_of}
 use Rattle.psg_unparse.specs.Rows.{is_below_level}
-use Rattle.psg_completing.specs.Samples.{in_brackets, one_line, sample}
+use Rattle.psg_completing.specs.Samples.{in_brackets, one_line}
 use Rattle.psg_completing.proofs.samples.sample_text.Goals as goal
 
 pub sample-requires : goal.sample-requires
