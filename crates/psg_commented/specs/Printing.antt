@@ -1,7 +1,7 @@
 -- A printed text with comments beside its tokens.
-use Rattle.std.specs.Prelude.{ℕ, ◌+◌, ◌==◌, nat_le, max, not, cond, Bool, true, false, List, [], ◌∷◌, ◌++◌}
-use Rattle.std.specs.Prelude.{take, drop, replicate}
-use Rattle.std.specs.List.{prefix_len, suffix_len}
+use Rattle.std.specs.Prelude.{ℕ, ◌+◌, ◌-◌, ◌==◌, nat_le, max, not, cond, Bool, true, false, List, [], ◌∷◌, ◌++◌}
+use Rattle.std.specs.Prelude.{take, drop, length, replicate}
+use Rattle.std.specs.List.{flat_map, prefix_len, suffix_len}
 use Rattle.psg_lexis.specs.declared.token.Token.{Token}
 use Rattle.psg_lexis.specs.declared.token.Token.TheVariants as tokens
 use Rattle.psg_lexis.specs.declared.token.Spanned.{Spanned}
@@ -21,9 +21,16 @@ is_due seen n = nat_le n.before seen
 abbrev pub due : Token → ℕ → List Note → ℕ
 due t seen notes = cond (closes t) 0 (prefix_len (is_due seen) notes)
 
--- how many bytes are after the last line feed
+-- the byte is no line feed
+abbrev pub is_other : ℕ → Bool
+is_other b = not (is_feed b)
+
+-- how many bytes there are up to the last line feed, and how many after it
+abbrev pub after_feed : List ℕ → ℕ
+after_feed bytes = length bytes - suffix_len is_other bytes
+
 abbrev pub own_level : List ℕ → ℕ
-own_level gap = suffix_len (λ b. not (is_feed b)) gap
+own_level gap = suffix_len is_other gap
 
 -- The indentation of the line after a gap, where the line before is indented by `level`; and that of comments in the gap,
 -- and of the token after them.
@@ -40,10 +47,12 @@ token_level level gap = cond (has_feed gap) (own_level gap) (level + 2)
 abbrev pub new_line : ℕ → List ℕ
 new_line level = 10 ∷ replicate level 32
 
--- comments, each on a line of its own
+-- a comment on a line of its own, and comments on such lines
+abbrev pub own_line : ℕ → Note → List ℕ
+own_line level n = new_line level ++ n.text
+
 abbrev pub on_lines : ℕ → List Note → List ℕ
-on_lines level [] = []
-on_lines level (n ∷ notes) = new_line level ++ (n.text ++ on_lines level notes)
+on_lines level notes = flat_map (own_line level) notes
 
 -- what is before a comment after a token: a space, or a new line
 abbrev pub lead : ℕ → Bool → List ℕ
@@ -61,10 +70,12 @@ gap_with level gap [] = gap
 gap_with level gap (n ∷ notes) =
     behind_token (comment_level level gap) (n ∷ notes) ++ new_line (token_level level gap)
 
--- comments before the first token, each on a line of its own
+-- a comment before the first token, and comments there, each on a line of its own
+abbrev pub head_line : Note → List ℕ
+head_line n = n.text ++ (10 ∷ [])
+
 abbrev pub heads : List Note → List ℕ
-heads [] = []
-heads (n ∷ notes) = n.text ++ (10 ∷ heads notes)
+heads notes = flat_map head_line notes
 
 module _ (text : List ℕ) where
   -- The token with what is before it: the text from the byte `from` on is not printed yet, so many tokens that are

@@ -63,28 +63,36 @@ fn counted(tokens: &[Spanned]) -> usize
         .count()
 }
 
-/// Returns all tokens before the place, by some that are before an earlier one.
-fn pass(tokens: &[Spanned], passed: Passed, place: usize) -> Passed
-    requires passed { IsPassed tokens.now passed }
+/// Returns tokens before the place: those, where they are before it, and none otherwise.
+fn known(tokens: &[Spanned], passed: Passed, place: usize) -> Passed
+    requires { IsPassed tokens.now passed }
     ensures passed { IsPassed tokens.now result }
-    ensures all { result.tokens ≡ ended_by tokens.now place }
+    ensures within { result.tokens ≤ ended_by tokens.now place }
 {
-    let known = if place < passed.place {
-        Passed {
+    if place < passed.place {
+        return Passed {
             place: 0,
             tokens: 0,
             counted: 0,
-        }
-    } else {
-        passed
-    };
-    let (_, rest) = tokens.split_at(known.tokens);
+        };
+    }
+    passed
+}
+
+/// Returns all tokens before the place, by some that are before an earlier one.
+fn pass(tokens: &[Spanned], passed: Passed, place: usize) -> Passed
+    requires { IsPassed tokens.now passed }
+    ensures passed { IsPassed tokens.now result }
+    ensures all { result.tokens ≡ ended_by tokens.now place }
+{
+    let before = known(tokens, passed, place);
+    let (_, rest) = tokens.split_at(before.tokens);
     let more = ended(rest, place);
     let (front, _) = rest.split_at(more);
     Passed {
         place,
-        tokens: known.tokens + more,
-        counted: known.counted + counted(front),
+        tokens: before.tokens + more,
+        counted: before.counted + counted(front),
     }
 }
 
@@ -154,7 +162,7 @@ fn trimmed(bytes: &[u8]) -> &[u8]
 }
 
 /// Returns the comment beside the tokens, where all those before it are given.
-fn note(
+fn noted(
     alloc: Global,
     text: &[u8],
     tokens: &[Spanned],
@@ -192,7 +200,7 @@ pub fn notes_of(
     };
     for comment in comments {
         passed = pass(tokens, passed, comment.start);
-        notes.push(note(alloc, text, tokens, passed, *comment)?)?;
+        notes.push(noted(alloc, text, tokens, passed, *comment)?)?;
     }
     Ok(notes)
 }

@@ -1,9 +1,11 @@
 //! A printed text with comments beside its tokens.
-ghost use Rattle.std.specs.Prelude.{◌≡◌, ◌≤◌, ◌<◌, ◌^◌, ◌++◌, ℕ, IfOk, OnOk, drop, length};
+ghost use Rattle.std.specs.Prelude.{◌≡◌, ◌≤◌, ◌<◌, ◌+◌, ◌^◌, ◌++◌, IfOk, OnOk, cond, drop, length, max};
 ghost use Rattle.std.specs.List.{prefix_len};
-ghost use Rattle.psg_commented.specs.Printing.{behind_token, closes as closes_of, comment_level, due as due_of, gap_with};
-ghost use Rattle.psg_commented.specs.Printing.{heads, is_due, lead, level_after, new_line, on_lines};
-ghost use Rattle.psg_commented.specs.Printing.{own_level as own_level_of, printed_from, token_level, token_with};
+ghost use Rattle.psg_commented.specs.Noting.{counts};
+ghost use Rattle.psg_commented.specs.Printing.{after_feed as after_feed_of, behind_token, closes as closes_of, comment_level};
+ghost use Rattle.psg_commented.specs.Printing.{is_other as is_other_of, due as due_of, gap_with};
+ghost use Rattle.psg_commented.specs.Printing.{head_line, heads, is_due, lead, level_after, new_line, on_lines};
+ghost use Rattle.psg_commented.specs.Printing.{own_level as own_level_of, own_line, printed_from, token_level, token_with};
 ghost use Rattle.psg_commented.specs.Printing.{with_notes as with_notes_of};
 ghost use Rattle.psg_commented.specs.Steps.{IsNext, IsSpot};
 
@@ -45,20 +47,39 @@ fn due(token: &Token, seen: usize, notes: &[Note]) -> usize
     ready(notes, seen)
 }
 
+/// Says whether the byte is no line feed.
+fn is_other(byte: u8) -> bool
+    ensures { result ≡ is_other_of byte }
+{
+    byte != b'\n'
+}
+
+/// Returns how many bytes there are up to the last line feed.
+fn after_feed(bytes: &[u8]) -> usize
+    ensures feed { result ≡ after_feed_of bytes.now }
+    ensures within { result ≤ length bytes.now }
+{
+    let mut front = bytes;
+    'bytes: while let Some((last, others)) = front.split_last() {
+        if !is_other(*last) {
+            return front.len();
+        }
+        front = others;
+    }
+    0
+}
+
 /// Returns how many bytes are after the last line feed.
 fn own_level(gap: &[u8]) -> usize
     ensures level { result ≡ own_level_of gap.now }
     ensures within { result ≤ length gap.now }
 {
-    let mut front = gap.len();
-    while front > 0 && gap[front - 1] != b'\n' {
-        front -= 1;
-    }
-    gap.len() - front
+    gap.len() - after_feed(gap)
 }
 
 /// How far lines are indented at a gap: that of comments in it, and that of the token after them, with comments and
 /// without.
+#[derive(Clone, Copy, Drop)]
 struct Levels {
     comments: usize,
     token: usize,
@@ -66,11 +87,12 @@ struct Levels {
 }
 
 /// Returns how far lines are indented at the gap, where the line before is indented by `level`.
-fn levels(level: usize, gap: &[u8]) -> Levels
+fn levels_at(level: usize, gap: &[u8]) -> Levels
     requires { level + 2 < 2 ^ 64 }
     ensures comments { result.comments ≡ comment_level level gap.now }
     ensures token { result.token ≡ token_level level gap.now }
     ensures after { result.after ≡ level_after level gap.now }
+    ensures within { result.after ≤ max level (length gap.now) }
 {
     if !has_feed(gap) {
         return Levels {
@@ -92,9 +114,18 @@ fn push_line(out: &mut Vec<u8>, level: usize) -> Result<(), AllocError>
     ensures { OnOk result (out.new.items ≡ out.old.items ++ new_line level) }
 {
     out.push(b'\n')?;
-    for _ in 0..level {
+    for _space in 0..level {
         out.push(b' ')?;
     }
+    Ok(())
+}
+
+/// Writes the comment on a line of its own.
+fn push_own(out: &mut Vec<u8>, level: usize, note: &Note) -> Result<(), AllocError>
+    ensures { OnOk result (out.new.items ≡ out.old.items ++ own_line level note.now) }
+{
+    push_line(out, level)?;
+    out.extend_from_slice(note.text.as_slice())?;
     Ok(())
 }
 
@@ -103,8 +134,7 @@ fn push_lines(out: &mut Vec<u8>, level: usize, notes: &[Note]) -> Result<(), All
     ensures { OnOk result (out.new.items ≡ out.old.items ++ on_lines level notes.now) }
 {
     for note in notes {
-        push_line(out, level)?;
-        out.extend_from_slice(note.text.as_slice())?;
+        push_own(out, level, note)?;
     }
     Ok(())
 }
@@ -152,15 +182,34 @@ fn push_gap(
     push_line(out, levels.token)
 }
 
+/// Writes a comment before the first token, on a line of its own.
+fn push_head(out: &mut Vec<u8>, note: &Note) -> Result<(), AllocError>
+    ensures { OnOk result (out.new.items ≡ out.old.items ++ head_line note.now) }
+{
+    out.extend_from_slice(note.text.as_slice())?;
+    out.push(b'\n')?;
+    Ok(())
+}
+
 /// Writes comments before the first token, each on a line of its own.
 fn push_heads(out: &mut Vec<u8>, notes: &[Note]) -> Result<(), AllocError>
     ensures { OnOk result (out.new.items ≡ out.old.items ++ heads notes.now) }
 {
     for note in notes {
-        out.extend_from_slice(note.text.as_slice())?;
-        out.push(b'\n')?;
+        push_head(out, note)?;
     }
     Ok(())
+}
+
+/// Returns 1 where the token is counted, and else 0.
+fn count_of(token: &Spanned) -> usize
+    ensures count { result ≡ cond (counts token.now) 1 0 }
+    ensures within { result ≤ 1 }
+{
+    if is_counted(&token.token) {
+        return 1;
+    }
+    0
 }
 
 /// Where a printed text goes on: the byte, how many tokens that are counted and how many comments were written, and how
@@ -193,15 +242,14 @@ fn push_token(
     let count = due(&token.token, spot.seen, left);
     let (here, _) = left.split_at(count);
     let gap = between(text, spot.from, token.start);
-    let levels = levels(spot.level, gap);
-    push_gap(out, spot.level, &levels, gap, here)?;
+    let at = levels_at(spot.level, gap);
+    push_gap(out, spot.level, &at, gap, here)?;
     out.extend_from_slice(between(text, token.start, token.end))?;
-    let more = if is_counted(&token.token) { 1 } else { 0 };
     Ok(Spot {
         from: token.end,
-        seen: spot.seen + more,
+        seen: spot.seen + count_of(token),
         told: spot.told + count,
-        level: levels.after,
+        level: at.after,
     })
 }
 
