@@ -135,6 +135,13 @@ pub(crate) fn are_same(own: &[Spanned], shown: &[Spanned]) -> bool
     true
 }
 
+/// Says whether both comments are after as many tokens.
+fn is_beside(one: &Note, other: &Note) -> bool
+    ensures { IsTrue result ↔ (place_of one.now ≡ place_of other.now) }
+{
+    one.before == other.before
+}
+
 /// Says whether the comments are after as many tokens.
 fn same_places(found: &[Note], notes: &[Note]) -> bool
     ensures { IsTrue result ↔ (map place_of found.now ≡ map place_of notes.now) }
@@ -143,11 +150,18 @@ fn same_places(found: &[Note], notes: &[Note]) -> bool
         return false;
     }
     for place in 0..found.len() {
-        if found[place].before != notes[place].before {
+        if !is_beside(&found[place], &notes[place]) {
             return false;
         }
     }
     true
+}
+
+/// Says whether both comments say the same.
+fn says_same(one: &Note, other: &Note) -> bool
+    ensures { IsTrue result ↔ (words_of one.now ≡ words_of other.now) }
+{
+    one.text.as_slice() == other.text.as_slice()
 }
 
 /// Says whether the comments say the same.
@@ -158,7 +172,7 @@ fn same_words(found: &[Note], notes: &[Note]) -> bool
         return false;
     }
     for place in 0..found.len() {
-        if found[place].text.as_slice() != notes[place].text.as_slice() {
+        if !says_same(&found[place], &notes[place]) {
             return false;
         }
     }

@@ -106,7 +106,7 @@ module _ (checks : Bool) (def : Definition) (comment : Option Name) (file : Name
         → IsWithout (fixed_words def) comment bytes comments own
         → TellsProgram def own (IsTold def comment file kind bytes comments own checks) old new status
         → FormatsFile old new status
-    no_room_without : new ≡ old → FormatsFile old new ends_with.Memory
+    no_room_to_format : new ≡ old → FormatsFile old new ends_with.Memory
 
 -- the kind is looked up before the file is read
 abbrev pub Formats : Bool → Definition → Option Name → Name → Name → Act
