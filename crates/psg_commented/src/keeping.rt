@@ -71,10 +71,11 @@ fn kept_text(
         return Ok(None);
     };
     let blanked = blank_comments(alloc, lexis, token, text.as_str())?;
-    if is_kept(alloc, lexis, shown, notes, text.as_str(), &blanked)? {
-        return Ok(Some(text));
+    let kept = is_kept(alloc, lexis, shown, notes, text.as_str(), &blanked)?;
+    if !kept {
+        return Ok(None);
     }
-    Ok(None)
+    Ok(Some(text))
 }
 
 /// Returns the printed text with the comments, if that keeps them.
@@ -94,7 +95,8 @@ fn commented(
         return Ok(None);
     };
     let new = with_notes(alloc, printed.as_bytes(), shown.as_slice(), notes)?;
-    kept_text(alloc, lexis, token, shown.as_slice(), notes, new)
+    let found = kept_text(alloc, lexis, token, shown.as_slice(), notes, new)?;
+    Ok(found)
 }
 
 /// Returns the text that is to be written for the text, whose tokens and comments are given, by the printed text of its
@@ -119,8 +121,9 @@ pub fn with_comments(
         return Ok(new);
     }
     let notes = notes_of(alloc, text.as_bytes(), tokens, comments)?;
-    match commented(alloc, lexis, token, printed, notes.as_slice())? {
+    let found = commented(alloc, lexis, token, printed, notes.as_slice())?;
+    match found {
         Some(new) => Ok(new),
-        None => String::from_str(alloc, text),
+        None => Ok(String::from_str(alloc, text)?),
     }
 }
