@@ -1,7 +1,7 @@
 -- Tokens before a place, as they are counted on.
-use Rattle.std.proofs.Common.{◌≡◌, ◌⊎◌, inl, inr, ℕ, suc, zero, ◌+◌, ◌<◌, ◌≤◌, true, false, cond, List, [], ◌∷◌, ◌++◌, length, take, drop, sym, ap, ◌∙◌, arith}
+use Rattle.std.proofs.Common.{◌≡◌, inl, inr, ℕ, suc, zero, ◌+◌, ◌≤◌, cond, List, [], ◌∷◌, take, drop, ap, ◌∙◌, arith}
 use Rattle.std.specs.Prelude.{nat_le}
-use Rattle.std.specs.List.{count_by, sum_by, prefix_len}
+use Rattle.std.specs.List.{count_by}
 use Rattle.std.proofs.Math.Seq.{take-add}
 use Rattle.std.proofs.lemmas.Bool.{cases_Bool}
 use Rattle.std.proofs.lemmas.Bool.Decides.{nat_tests}
@@ -21,12 +21,12 @@ ended_rest [] (suc k) place h = absurd (omega (arith, h))
 ended_rest (t ∷ ts) (suc k) place h =
     elim (cases_Bool (nat_le t.end place)) [
       | inl e ↦
-        let s : ended_by (t ∷ ts) place ≡ 1 + ended_by ts place = ap (λ b. cond b (1 + ended_by ts place) 0) e in
-        let r : ended_by ts place ≡ k + ended_by (drop k ts) place = ended_rest ts k place (omega (arith, s, h)) in
-        omega (arith, s, r)
+          let s : ended_by (t ∷ ts) place ≡ 1 + ended_by ts place = ap (λ b. cond b (1 + ended_by ts place) 0) e in
+          let r : ended_by ts place ≡ k + ended_by (drop k ts) place = ended_rest ts k place (omega (arith, s, h)) in
+          omega (arith, s, r)
       | inr e ↦
-        let s : ended_by (t ∷ ts) place ≡ 0 = ap (λ b. cond b (1 + ended_by ts place) 0) e in
-        absurd (omega (arith, s, h))
+          let s : ended_by (t ∷ ts) place ≡ 0 = ap (λ b. cond b (1 + ended_by ts place) 0) e in
+          absurd (omega (arith, s, h))
     ]
 
 -- tokens after others are counted with them

@@ -1,6 +1,6 @@
 -- What is lost of comments.
-use Rattle.std.proofs.Common.{◌≡◌, ℕ, List, Option, Some, None, sym, ap, ◌∙◌, subst}
-use Rattle.std.specs.Prelude.{IfNone, chars}
+use Rattle.std.proofs.Common.{◌≡◌, ℕ, List, Option, Some, None, ap, ◌∙◌, subst}
+use Rattle.std.specs.Prelude.{IfNone, IfSome, chars}
 use Rattle.psg_terms.specs.Names.{Name}
 use Rattle.psg_lexis.specs.Tokens.{HasTokens}
 use Rattle.psg_lexis.specs.declared.token.Spanned.{Spanned}
@@ -11,6 +11,12 @@ use Rattle.psg_commented.specs.declared.noting.Note.{Note}
 pub if_none : {X P Q : Type 0} (o : Option X) → (P → Q) → IfNone o P → IfNone o Q
 if_none (Some x) f h = tt
 if_none None f h = f h
+
+pub some_at : {X : Type 0} (P : X → Type 0) (o : Option X) (x : X) → o ≡ Some x → IfSome o P → P x
+some_at P o x e h = rw e at h
+
+pub none_at : {X Q : Type 0} (o : Option X) → o ≡ None → IfNone o Q → Q
+none_at o e h = rw e at h
 
 -- The text with the comments does not keep them, and the printed text has these tokens alone.
 pub lost_by : (fixed : List Name) (token : Name) (printed printed' : List ℕ) (notes : List Note) (shown one two : List Spanned)

@@ -1,5 +1,5 @@
 -- Two lists that are compared place by place.
-use Rattle.std.proofs.Common.{◌≡◌, ℕ, ◌+◌, ◌<◌, ◌≤◌, Bool, true, false, List, [], ◌∷◌, ◌++◌, length, take, map, get_or, refl, sym, ap, ◌∙◌, arith}
+use Rattle.std.proofs.Common.{◌≡◌, ℕ, ◌+◌, ◌<◌, ◌≤◌, List, [], ◌∷◌, ◌++◌, length, take, map, get_or, refl, sym, ap, ◌∙◌}
 use Rattle.std.proofs.lemmas.List.{get_or-map, length-map, map-append, take_all, take_more}
 
 -- the lists are alike up to the place
@@ -15,12 +15,12 @@ pub alike_more : {X Y : Type 0} (f : X → Y) (xs ys : List X) (n : ℕ) (x y : 
 alike_more f xs ys n x y a l m ex ey e =
     record {
       same =
-        ap (map f) (take_more xs n x l) ∙ map-append f (take n xs) (get_or xs n x ∷ [])
-        ∙ ap (λ z. map f (take n xs) ++ f z ∷ []) (sym ex)
-        ∙ ap (λ zs. zs ++ f x ∷ []) a.same
-        ∙ ap (λ z. map f (take n ys) ++ z ∷ []) e
-        ∙ ap (λ z. map f (take n ys) ++ f z ∷ []) ey
-        ∙ sym (ap (map f) (take_more ys n y m) ∙ map-append f (take n ys) (get_or ys n y ∷ []));
+          ap (map f) (take_more xs n x l) ∙ map-append f (take n xs) (get_or xs n x ∷ [])
+          ∙ ap (λ z. map f (take n xs) ++ f z ∷ []) (sym ex)
+          ∙ ap (λ zs. zs ++ f x ∷ []) a.same
+          ∙ ap (λ z. map f (take n ys) ++ z ∷ []) e
+          ∙ ap (λ z. map f (take n ys) ++ f z ∷ []) ey
+          ∙ sym (ap (map f) (take_more ys n y m) ∙ map-append f (take n ys) (get_or ys n y ∷ []));
     }
 
 -- all places

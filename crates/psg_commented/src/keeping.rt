@@ -49,7 +49,12 @@ fn is_kept(
     if !are_same(own.as_slice(), shown) {
         return Ok(false);
     }
-    let found = notes_of(alloc, text.as_bytes(), own.as_slice(), blanked.comments.as_slice())?;
+    let found = notes_of(
+        alloc,
+        text.as_bytes(),
+        own.as_slice(),
+        blanked.comments.as_slice(),
+    )?;
     Ok(are_kept(notes, found.as_slice()))
 }
 
@@ -91,7 +96,8 @@ fn commented(
         IsCommented lexis.now token.now printed.now notes.now (string_bytes text))) }
     ensures none { IfOk result (λ found. IfNone found (IsLost lexis.now token.now printed.now notes.now)) }
 {
-    let Some(shown) = tokens_in(alloc, lexis, printed)? else {
+    let tokens = tokens_in(alloc, lexis, printed)?;
+    let Some(shown) = tokens else {
         return Ok(None);
     };
     let new = with_notes(alloc, printed.as_bytes(), shown.as_slice(), notes)?;

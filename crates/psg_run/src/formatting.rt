@@ -29,7 +29,10 @@ use crate::without::{Own, without_comments};
 use psg_commented::with_comments;
 use psg_comments::Comment;
 use psg_grammar::{Kind, kind_named};
-use psg_program::{Place, Program, ProgramFault, first_difference, formatted, read_program, unmarked as unmarked_part};
+use psg_program::{
+    Place, Program, ProgramFault, first_difference, formatted, read_program,
+    unmarked as unmarked_part,
+};
 use psg_specimen::Language;
 use psg_terms::Steps;
 use psg_unparse::unparse;
@@ -286,9 +289,7 @@ fn tell_without<O: Sink, L: Ledger>(
     let Ok(own) = without_comments(alloc, defined, bytes) else {
         return Status::Memory;
     };
-    tell(
-        alloc, defined, kind, file, bytes, &own, checks, out, steps,
-    )
+    tell(alloc, defined, kind, file, bytes, &own, checks, out, steps)
 }
 
 /// Reads the file and puts what is told of it.

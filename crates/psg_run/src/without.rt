@@ -32,12 +32,7 @@ fn as_they_are(alloc: Global, bytes: &[u8]) -> Result<Own, AllocError>
 }
 
 /// Returns the comments and the bytes of the file, with a space for each byte of a comment.
-fn blank_file(
-    alloc: Global,
-    lexis: &Lexis,
-    token: &str,
-    bytes: &[u8],
-) -> Result<Own, AllocError>
+fn blank_file(alloc: Global, lexis: &Lexis, token: &str, bytes: &[u8]) -> Result<Own, AllocError>
     requires fit { IsFit lexis.now token.now }
     ensures { IfOk result (λ own. IsBlankedFile lexis.now token.now bytes.now own.comments.items own.bytes.items) }
 {

@@ -1,4 +1,5 @@
-use Rattle.std.proofs.Common.{false≢true, true≢false, sym, ◌∙◌}
+use Rattle.std.proofs.Common.{true≢false, rules, sym, ◌∙◌}
+use Rattle.std.proofs.lemmas.Bool.{false≢true}
 use Rattle.psg_commented.specs.Keeping.{place_of}
 use Rattle.psg_commented.proofs.Lists.{other_place}
 use Rattle.psg_commented.proofs.same.same_places.Goals as goal
