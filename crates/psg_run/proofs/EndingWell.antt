@@ -39,6 +39,7 @@ use Rattle.psg_run.specs.Framed.{framed_text}
 use Rattle.psg_run.specs.Generated.{Generates, no_room_to_tell, tells}
 use Rattle.psg_run.specs.Live.{EndsInput, IsRepliedLiveBy, Talks, TalksBy, is_at_end, is_unread_line, no_room_for_line}
 use Rattle.psg_run.specs.Linting.{IsLint, Lints, LintsFile, TellsLint, ending, lints_file, no_room_for_lint, no_room_without, tells_lint}
+use Rattle.psg_comments.specs.declared.finding.Comment.{Comment}
 use Rattle.psg_run.specs.Without.{IsWithout}
 use Rattle.psg_run.specs.Outputs.{EndsWell, HasDefinition, HasFaultless, HasLayout, HasProgram, IsFaultless, IsRight, IsShort, WasRead}
 use Rattle.psg_run.specs.Promise.{check, edit, framed, live, windows, gen, layout, itself, format, check_format}
@@ -472,11 +473,11 @@ has_ended_well (layout d s l columns) old new status run ((has, was, short, was_
 has_ended_well (itself s file) old new status run ((def, accepted, is), short, was, sink) =
     self_well old new sink s file def accepted is short was status run
 has_ended_well (format d k p) old new status run (has, was, program, was_program, sink) =
-    reads_well old new sink has.held d most_definition_bytes (λ bytes. Defines bytes (λ def. Formats false def k p)) status
-    has.known has.short was (λ ended on. formatted_well old new sink false d k p has program was_program ended on) run
+    reads_well old new sink has.held d most_definition_bytes
+    (λ bytes. Defines bytes (λ def. Formats false def (comment_of bytes) k p)) status has.known has.short was (λ ended on. formatted_well old new sink false d k p has program was_program ended on) run
 has_ended_well (check_format d k p) old new status run (has, was, program, was_program, sink) =
-    reads_well old new sink has.held d most_definition_bytes (λ bytes. Defines bytes (λ def. Formats true def k p)) status
-    has.known has.short was (λ ended on. formatted_well old new sink true d k p has program was_program ended on) run
+    reads_well old new sink has.held d most_definition_bytes
+    (λ bytes. Defines bytes (λ def. Formats true def (comment_of bytes) k p)) status has.known has.short was (λ ended on. formatted_well old new sink true d k p has program was_program ended on) run
 has_ended_well (lint d k p) old new status run (has, was, program, was_program, sink) =
     reads_well old new sink has.held d most_definition_bytes
     (λ bytes. Defines bytes (λ def. Lints def (comment_of bytes) k p)) status
