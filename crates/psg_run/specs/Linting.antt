@@ -4,6 +4,7 @@ use Rattle.psg_terms.specs.Names.{Name}
 use Rattle.psg_grammar.specs.declared.types.Definition.{Definition}
 use Rattle.psg_grammar.specs.declared.types.Kind.{Kind}
 use Rattle.psg_grammar.specs.WellFormed.{fixed_words}
+use Rattle.psg_comments.specs.declared.finding.Comment.{Comment}
 use Rattle.psg_recover.specs.declared.finding.Finding.{Finding}
 use Rattle.psg_recover.specs.Findings.{AreLines, has_error, with_feeds}
 use Rattle.psg_lint.specs.Reports.{IsReport}
@@ -41,7 +42,8 @@ module _ (def : Definition) (file : Name) (kind : Kind) (bytes : List ℕ) where
 module _ (def : Definition) (comment : Option Name) (file : Name) (kind : Kind) (bytes : List ℕ) where
   -- That is told of the bytes without their comments. Or memory ran out before these were known, and nothing was put.
   pub data LintsFile (old new : World) : Status → Type 0 where
-    lints_file : {status : Status} (own : List ℕ) → IsWithout (fixed_words def) comment bytes own
+    lints_file : {status : Status} (comments : List Comment) (own : List ℕ)
+        → IsWithout (fixed_words def) comment bytes comments own
         → TellsLint def file kind own old new status → LintsFile old new status
     no_room_without : new ≡ old → LintsFile old new ends_with.Memory
 

@@ -12,7 +12,6 @@ use Rattle.psg_langs.specs.declared.named.TheConstants.{MINI, SELF}
 use Rattle.psg_layout.specs.declared.layout.Layout.{Layout}
 use Rattle.psg_layout.specs.Layouts.{LayoutRefusal}
 use Rattle.psg_lint.specs.Reports.{IsReport}
-use Rattle.psg_program.specs.Formatted.{formatted}
 use Rattle.psg_program.specs.Programs.{IsFaulty, IsProgram}
 use Rattle.psg_recover.specs.declared.finding.Finding.{Finding}
 use Rattle.psg_recover.specs.Findings.{has_error}
@@ -33,12 +32,13 @@ use Rattle.psg_run.specs.Arranging.{Arranges, most_layout_bytes}
 use Rattle.psg_run.specs.Chain.{Point, Runs, first_point, rests, goes}
 use Rattle.psg_run.specs.Editing.{Editor, IsReplied, new_editor}
 use Rattle.psg_run.specs.Live.{IsRepliedLive, heard, with_input}
-use Rattle.psg_run.specs.Formatting.{most_program_bytes}
+use Rattle.psg_run.specs.Formatting.{IsWanted, most_program_bytes}
 use Rattle.psg_run.specs.Promise.{Form, IsRunOf, check, edit, live, windows, gen, layout, itself, format, check_format}
 use Rattle.psg_run.specs.Promise.{explain, framed, lint}
 use Rattle.psg_run.specs.Without.{IsWithout}
 use Rattle.psg_grammar.specs.WellFormed.{fixed_words}
 use Rattle.psg_defcomment.specs.Reading.{comment_of}
+use Rattle.psg_comments.specs.declared.finding.Comment.{Comment}
 use Rattle.psg_run.specs.Reading.{IsAccepted, most_definition_bytes, most_script_bytes}
 use Rattle.psg_run.specs.Worlds.{IsFrontOf, World, with_failed_read}
 
@@ -167,15 +167,18 @@ pub record HasLayout (world : World) (definition rules : Name) : Type 0 where
   pub faultless : (def : Definition) → IsAccepted (bytes_of held definition) def
       → (line code : ℕ) → LayoutRefusal def (bytes_of held rules) line code → ⊥
 
--- The name is that of a kind of which a program may be, and the bytes are a program of it. Where it is asked for, they are
--- the text that they are to be.
-pub record IsRight (def : Definition) (name : Name) (bytes : List ℕ) (checks : Bool) : Type 0 where
+-- The name is that of a kind of which a program may be, and the bytes without their comments are a program of it. Where it
+-- is asked for, the bytes are the text that they are to be.
+pub record IsRight (def : Definition) (comment : Option Name) (name : Name) (bytes : List ℕ) (checks : Bool)
+    : Type 0 where
   pub some_kind : ((kind : Kind) → kind_name_of def kind ≡ Some name → ⊥) → ⊥
   pub quiet : (kind : Kind) → kind_name_of def kind ≡ Some name → IsDeclaringPhylum def kind → ⊥
-  pub faultless : (kind : Kind) → kind_name_of def kind ≡ Some name → (line column : ℕ) (message : List ℕ)
-      → IsFaulty def kind bytes line column message → ⊥
-  pub is_formatted : checks ≡ true → (kind : Kind) → kind_name_of def kind ≡ Some name → (f : Fragment)
-      → IsProgram def kind bytes f → bytes ≡ formatted def f
+  pub faultless : (kind : Kind) → kind_name_of def kind ≡ Some name → (comments : List Comment) (own : List ℕ)
+      → IsWithout (fixed_words def) comment bytes comments own → (line column : ℕ) (message : List ℕ)
+      → IsFaulty def kind own line column message → ⊥
+  pub is_formatted : checks ≡ true → (kind : Kind) → kind_name_of def kind ≡ Some name → (comments : List Comment)
+      (own : List ℕ) → IsWithout (fixed_words def) comment bytes comments own → (f : Fragment) (wanted : List ℕ)
+      → IsProgram def kind own f → IsWanted def comment bytes comments own f wanted → bytes ≡ wanted
 
 -- the file of a program is known, short enough, and right for the definition that the other file holds
 pub record HasProgram (world : World) (definition name program : Name) (checks : Bool) : Type 0 where
@@ -183,14 +186,14 @@ pub record HasProgram (world : World) (definition name program : Name) (checks :
   pub known : world.files.held ≡ Some held
   pub short : length (bytes_of held program) ≤ most_program_bytes
   pub right : (def : Definition) → IsAccepted (bytes_of held definition) def
-      → IsRight def name (bytes_of held program) checks
+      → IsRight def (comment_of (bytes_of held definition)) name (bytes_of held program) checks
 
 -- The name is that of a kind of which a program may be, and no report of the bytes without their comments has an error.
 pub record IsFaultless (def : Definition) (comment : Option Name) (name : Name) (bytes : List ℕ) : Type 0 where
   pub some_kind : ((kind : Kind) → kind_name_of def kind ≡ Some name → ⊥) → ⊥
   pub quiet : (kind : Kind) → kind_name_of def kind ≡ Some name → IsDeclaringPhylum def kind → ⊥
-  pub faultless : (kind : Kind) → kind_name_of def kind ≡ Some name → (own : List ℕ)
-      → IsWithout (fixed_words def) comment bytes own → (text : List ℕ) (limited : Bool) (found : List Finding)
+  pub faultless : (kind : Kind) → kind_name_of def kind ≡ Some name → (comments : List Comment)
+      (own : List ℕ) → IsWithout (fixed_words def) comment bytes comments own → (text : List ℕ) (limited : Bool) (found : List Finding)
       (more : Bool) → IsReport def kind own text limited found more → has_error found ≡ false
 
 -- the file of a program is known, short enough, and without errors for the definition that the other file holds

@@ -77,8 +77,10 @@ IsRunOf (layout definition script rules columns) =
 IsRunOf (itself script file) =
     Defines SELF.now
     (λ def. GoesOnAsSelf def (Reads script most_script_bytes (λ bytes. Exports def file (script_lines bytes))))
-IsRunOf (format definition kind program) = OnDefinition definition (λ def. Formats false def kind program)
-IsRunOf (check_format definition kind program) = OnDefinition definition (λ def. Formats true def kind program)
+IsRunOf (format definition kind program) =
+    OnCommented definition (λ comment def. Formats false def comment kind program)
+IsRunOf (check_format definition kind program) =
+    OnCommented definition (λ comment def. Formats true def comment kind program)
 IsRunOf (lint definition kind program) = OnCommented definition (λ comment def. Lints def comment kind program)
 IsRunOf (explain definition script) =
     OnDefinition definition (λ def. Reads script most_script_bytes (λ bytes. Explains def (script_lines bytes)))

@@ -117,7 +117,7 @@ fn tell_without<O: Sink, L: Ledger>(
         &defined.language,
         kind,
         file,
-        own.as_slice(),
+        own.bytes.as_slice(),
         out,
         steps,
     )
