@@ -66,9 +66,9 @@ module _ (fixed : List Name) (token : Name) (printed : List ℕ) (notes : List N
 
 module _ (fixed : List Name) (token : Name) (text : List ℕ) (ts : List Spanned) (comments : List Comment)
     (printed : List ℕ) where
-  -- The text that is to be written for a text with these tokens and comments, of whose tokens the printed text is given:
-  -- the printed text with the comments, where that has the same tokens and keeps the comments; and otherwise the text as
-  -- it is.
+  -- The text that is to be written for a text with these tokens and comments, of whose tokens the printed text is
+  -- given: the printed text with the comments, where that has the same tokens and keeps the comments; and otherwise the
+  -- text as it is.
   pub data IsWithComments : List ℕ → Type 0 where
     no_comments : comments ≡ [] → IsWithComments (printed ++ 10 ∷ [])
     with_them : (new : List ℕ) → IsCommented fixed token printed (notes_of text ts comments) new

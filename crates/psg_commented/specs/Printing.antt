@@ -13,11 +13,11 @@ abbrev pub closes : Token → Bool
 closes (tokens.Solo c) = c == 41
 closes _ = false
 
--- the comment is after so many tokens at most
+-- the comment is after that many tokens at most
 abbrev pub is_due : ℕ → Note → Bool
 is_due seen n = nat_le n.before seen
 
--- how many of the comments are due before the token, after so many tokens that are counted
+-- how many of the comments are due before the token, after that many tokens that are counted
 abbrev pub due : Token → ℕ → List Note → ℕ
 due t seen notes = cond (closes t) 0 (prefix_len (is_due seen) notes)
 
@@ -32,8 +32,8 @@ after_feed bytes = length bytes - suffix_len is_other bytes
 abbrev pub own_level : List ℕ → ℕ
 own_level gap = suffix_len is_other gap
 
--- The indentation of the line after a gap, where the line before is indented by `level`; and that of comments in the gap,
--- and of the token after them.
+-- The indentation of the line after a gap, where the line before is indented by `level`; and that of comments in the
+-- gap, and of the token after them.
 abbrev pub level_after : ℕ → List ℕ → ℕ
 level_after level gap = cond (has_feed gap) (own_level gap) level
 
@@ -78,7 +78,7 @@ abbrev pub heads : List Note → List ℕ
 heads notes = flat_map head_line notes
 
 module _ (text : List ℕ) where
-  -- The token with what is before it: the text from the byte `from` on is not printed yet, so many tokens that are
+  -- The token with what is before it: the text from the byte `from` on is not printed yet, that many tokens that are
   -- counted are before the token, and the line is indented by `level`.
   abbrev pub token_with : ℕ → ℕ → ℕ → Spanned → List Note → List ℕ
   token_with from seen level t notes =

@@ -12,7 +12,7 @@ pub record IsPassed (ts : List Spanned) (p : Passed) : Type 0 where
   pub tokens : p.tokens ≤ ended_by ts p.place
   pub counted : p.counted ≡ count_by counts (take p.tokens ts)
 
--- so many tokens of the text were written at most, and so many comments
+-- that many tokens of the text were written at most, and that many comments
 pub record IsSpot (text : List ℕ) (written : ℕ) (notes : List Note) (s : Spot) : Type 0 where
   pub seen : s.seen ≤ written
   pub told : s.told ≤ length notes

@@ -1,4 +1,4 @@
-//! A text with comments, printed anew.
+//! A text with comments, printed again.
 ghost use Rattle.std.specs.Prelude.{◌≡◌, ◌↔◌, List, IfNone, IfOk, IfSome, IsTrue, IsUtf8, chars, string_bytes};
 ghost use Rattle.psg_comments.specs.Blanking.{IsBlanked};
 ghost use Rattle.psg_comments.specs.Fitting.{IsFit};
@@ -69,8 +69,10 @@ fn kept_text(
 ) -> Result<Option<String>, AllocError>
     requires fit { IsFit lexis.now token.now }
     ensures same { IfOk result (λ found. IfSome found (λ text. string_bytes text ≡ bytes.items)) }
-    ensures some { IfOk result (λ found. IfSome found (λ _. Keeps lexis.now token.now shown.now notes.now bytes.items)) }
-    ensures none { IfOk result (λ found. IfNone found (DoesNotKeep lexis.now token.now shown.now notes.now bytes.items)) }
+    ensures some { IfOk result
+        (λ found. IfSome found (λ _. Keeps lexis.now token.now shown.now notes.now bytes.items)) }
+    ensures none { IfOk result
+        (λ found. IfNone found (DoesNotKeep lexis.now token.now shown.now notes.now bytes.items)) }
 {
     let Ok(text) = String::from_utf8(bytes) else {
         return Ok(None);

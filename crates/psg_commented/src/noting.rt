@@ -13,7 +13,7 @@ use std::alloc::{AllocError, Global};
 /// A comment beside the tokens of its program.
 #[derive(Drop)]
 pub struct Note {
-    /// How many tokens are before it, but for round brackets.
+    /// How many tokens are before it, except round brackets.
     pub before: usize,
     /// Whether a token is before it on its line.
     pub trails: bool,
@@ -182,8 +182,8 @@ fn noted(
     })
 }
 
-/// Returns the comments beside the tokens of the text. It fails where memory runs out, and takes time linear in the text
-/// where tokens and comments are in its order.
+/// Returns the comments beside the tokens of the text. It fails where memory runs out, and takes time linear in the
+/// text where tokens and comments are in its order.
 pub fn notes_of(
     alloc: Global,
     text: &[u8],

@@ -2,10 +2,12 @@
 ghost use Rattle.std.specs.Prelude.{◌≡◌, ◌≤◌, ◌<◌, ◌+◌, ◌^◌, ◌++◌, IfOk, OnOk, cond, drop, length, max};
 ghost use Rattle.std.specs.List.{prefix_len};
 ghost use Rattle.psg_commented.specs.Noting.{counts};
-ghost use Rattle.psg_commented.specs.Printing.{after_feed as after_feed_of, behind_token, closes as closes_of, comment_level};
+ghost use Rattle.psg_commented.specs.Printing.{after_feed as after_feed_of, behind_token};
+ghost use Rattle.psg_commented.specs.Printing.{closes as closes_of, comment_level};
 ghost use Rattle.psg_commented.specs.Printing.{is_other as is_other_of, due as due_of, gap_with};
 ghost use Rattle.psg_commented.specs.Printing.{head_line, heads, is_due, lead, level_after, new_line, on_lines};
-ghost use Rattle.psg_commented.specs.Printing.{own_level as own_level_of, own_line, printed_from, token_level, token_with};
+ghost use Rattle.psg_commented.specs.Printing.{own_level as own_level_of, own_line, printed_from};
+ghost use Rattle.psg_commented.specs.Printing.{token_level, token_with};
 ghost use Rattle.psg_commented.specs.Printing.{with_notes as with_notes_of};
 ghost use Rattle.psg_commented.specs.Steps.{IsNext, IsSpot};
 
@@ -23,7 +25,7 @@ fn closes(token: &Token) -> bool
     }
 }
 
-/// Returns how many of the comments at the beginning are after so many tokens at most.
+/// Returns how many of the comments at the beginning are after that many tokens at most.
 fn ready(notes: &[Note], seen: usize) -> usize
     ensures count { result ≡ prefix_len (is_due seen) notes.now }
     ensures within { result ≤ length notes.now }
@@ -109,7 +111,7 @@ fn levels_at(level: usize, gap: &[u8]) -> Levels
     }
 }
 
-/// Writes a line feed and so many spaces.
+/// Writes a line feed and that many spaces.
 fn push_line(out: &mut Vec<u8>, level: usize) -> Result<(), AllocError>
     ensures { OnOk result (out.new.items ≡ out.old.items ++ new_line level) }
 {
@@ -277,8 +279,8 @@ fn push_tokens(
     Ok(())
 }
 
-/// Returns the printed text, of which the tokens are given, with the comments beside them. It fails where memory runs out,
-/// and takes time linear in the text and the comments.
+/// Returns the printed text, of which the tokens are given, with the comments beside them. It fails where memory runs
+/// out, and takes time linear in the text and the comments.
 pub fn with_notes(
     alloc: Global,
     text: &[u8],

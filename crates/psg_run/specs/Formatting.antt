@@ -1,4 +1,4 @@
--- What `format` reads and tells: a file with a program of a kind, and the text that it is to have.
+-- What `format` reads and prints: a file with a program of a kind, and the text that it is to have.
 use Rattle.std.specs.Prelude.{ℕ, ◌≡◌, Bool, true, false, List, [], ◌++◌, Option, Some, None, codes, decimal}
 use Rattle.psg_terms.specs.Names.{Name}
 use Rattle.psg_grammar.specs.declared.types.Definition.{Definition}
@@ -29,8 +29,8 @@ most_program_bytes = 4194304
 -- ---- the kind
 
 module _ (def : Definition) (name : Name) (Next : Kind → Act) where
-  -- The name is that of a phylum or a list of the definition, and the run goes on with it. Or it ends here, and the line
-  -- of the refusal is put: there is none of the name, or it is a phylum that declares.
+  -- The name is that of a phylum or a list of the definition, and the run goes on with it. Or it ends here, and the
+  -- line of the refusal is put: there is none of the name, or it is a phylum that declares.
   pub data OnKind (old new : World) : Status → Type 0 where
     is_kind : {status : Status} (kind : Kind) → kind_name_of def kind ≡ Some name → (IsDeclaringPhylum def kind → ⊥)
         → Next kind old new status → OnKind old new status
@@ -39,7 +39,7 @@ module _ (def : Definition) (name : Name) (Next : Kind → Act) where
     is_declaring : {status : Status} (kind : Kind) → kind_name_of def kind ≡ Some name → IsDeclaringPhylum def kind
         → Puts (feed (codes "refused 21")) ends_with.Wrong old new status → OnKind old new status
 
--- ---- what is told of a program file
+-- ---- what is said of a program file
 
 -- an error at a place of a file
 abbrev pub error_line : Name → ℕ → ℕ → List ℕ → List ℕ
@@ -55,16 +55,16 @@ IsWanted def (Some token) bytes comments own f wanted =
 
 module _ (def : Definition) (comment : Option Name) (file : Name) (kind : Kind) (bytes : List ℕ)
     (comments : List Comment) (own : List ℕ) where
-  -- Where the bytes without their comments are a program, the text that they are to be is told. Otherwise it is told why
-  -- they are none.
+  -- Where the bytes without their comments are a program, the text that they are to be is printed. Otherwise a
+  -- line says why they are none.
   pub data IsFormat : List ℕ → Status → Type 0 where
     is_formatted : (f : Fragment) (wanted : List ℕ) → IsProgram def kind own f
         → IsWanted def comment bytes comments own f wanted → IsFormat wanted ends_with.Done
     is_faulty : (line column : ℕ) (message : List ℕ) → IsFaulty def kind own line column message
         → IsFormat (feed (error_line file line column message)) ends_with.Wrong
 
-  -- Where the bytes are the text that they are to be, nothing is told. Otherwise it is told in which line they are not it
-  -- first, and what that line is to be, or why they are no program.
+  -- Where the bytes are the text that they are to be, nothing is printed. Otherwise a line says in which line they are
+  -- not it first, and what that line is to be, or why they are no program.
   pub data IsFormatCheck : List ℕ → Status → Type 0 where
     is_as_it_is_to_be : (f : Fragment) → IsProgram def kind own f → IsWanted def comment bytes comments own f bytes
         → IsFormatCheck [] ends_with.Done
@@ -74,7 +74,7 @@ module _ (def : Definition) (comment : Option Name) (file : Name) (kind : Kind) 
     is_no_program : (line column : ℕ) (message : List ℕ) → IsFaulty def kind own line column message
         → IsFormatCheck (feed (error_line file line column message)) ends_with.Wrong
 
-  -- what is told, with the word `--check` or without
+  -- what is printed, with the word `--check` or without
   abbrev pub IsTold : Bool → List ℕ → Status → Type 0
   IsTold false = IsFormat
   IsTold true = IsFormatCheck
@@ -90,8 +90,8 @@ with_ticks old ticks = record {
 }
 
 module _ (def : Definition) (bytes : List ℕ) (Tells : List ℕ → Status → Type 0) where
-  -- What is told of the bytes is put, and the run ends with the status that it has. Or memory ran out before it was known,
-  -- and nothing was put. A token of the text counts as an evaluation at most.
+  -- What is said of the bytes is put, and the run ends with the status that it has. Or memory ran out before it was
+  -- known, and nothing was put. A token of the text counts as an evaluation at most.
   pub data TellsProgram (old new : World) : Status → Type 0 where
     tells_program : {status : Status} (ticks : ℕ) (text : List ℕ) (done : Status)
         → HasCounted def (unmarked bytes) old.ticks ticks → Tells text done
@@ -100,7 +100,7 @@ module _ (def : Definition) (bytes : List ℕ) (Tells : List ℕ → Status → 
         → new ≡ with_ticks old ticks → TellsProgram old new ends_with.Memory
 
 module _ (checks : Bool) (def : Definition) (comment : Option Name) (file : Name) (kind : Kind) (bytes : List ℕ) where
-  -- That is told of the bytes without their comments. Or memory ran out before these were known, and nothing was put.
+  -- That is said of the bytes without their comments. Or memory ran out before these were known, and nothing was put.
   pub data FormatsFile (old new : World) : Status → Type 0 where
     formats_file : {status : Status} (comments : List Comment) (own : List ℕ)
         → IsWithout (fixed_words def) comment bytes comments own

@@ -1,4 +1,4 @@
--- What `lint` reads and tells: a file that is to be a program of a kind, and all that is found in it.
+-- What `lint` reads and prints: a file that is to be a program of a kind, and all that is found in it.
 use Rattle.std.specs.Prelude.{ℕ, ◌≡◌, Bool, true, false, cond, Option, List, []}
 use Rattle.psg_terms.specs.Names.{Name}
 use Rattle.psg_grammar.specs.declared.types.Definition.{Definition}
@@ -32,15 +32,15 @@ module _ (def : Definition) (file : Name) (kind : Kind) (bytes : List ℕ) where
     pub told_is : told ≡ with_feeds lines
     pub done_is : done ≡ ending found
 
-  -- What is told of the bytes is put, and the run ends with the status that it has. Or memory ran out before it was known,
-  -- and nothing was put.
+  -- What is said of the bytes is put, and the run ends with the status that it has. Or memory ran out before it was
+  -- known, and nothing was put.
   pub data TellsLint (old new : World) : Status → Type 0 where
     tells_lint : {status : Status} (ticks : ℕ) (told : List ℕ) (done : Status) → IsLint told done
         → Puts told done (with_ticks old ticks) new status → TellsLint old new status
     no_room_for_lint : (ticks : ℕ) → new ≡ with_ticks old ticks → TellsLint old new ends_with.Memory
 
 module _ (def : Definition) (comment : Option Name) (file : Name) (kind : Kind) (bytes : List ℕ) where
-  -- That is told of the bytes without their comments. Or memory ran out before these were known, and nothing was put.
+  -- That is said of the bytes without their comments. Or memory ran out before these were known, and nothing was put.
   pub data LintsFile (old new : World) : Status → Type 0 where
     lints_file : {status : Status} (comments : List Comment) (own : List ℕ)
         → IsWithout (fixed_words def) comment bytes comments own

@@ -126,15 +126,15 @@ LeavesFiles = (number : ℕ) (old new : World) (status : Status) → IsRunOf (ge
 -- ---- arranged text
 
 module _ (def : Definition) where
-  -- The text is that of tokens which read back as the opened fragment, and are the tokens of its plain text. Where nothing
-  -- is opened, it is the word `none`.
+  -- The text is that of tokens which read back as the opened fragment, and are the tokens of its plain text. Where
+  -- nothing is opened, it is the word `none`.
   pub data ReadsBackAs : Option Opened → List ℕ → Type 0 where
     of_nothing : ReadsBackAs None (codes "none")
     of_opened : (old : Opened) (puts : List Put) → SpacedReadsBack def old.tree old.kind puts
         → ReadsBackAs (Some old) (text_in puts)
 
-  -- Where the lines were played and the arranged text was put, what was put is one line feed after a text that reads back
-  -- as the fragment which is opened after the lines. The replies to the lines are not put.
+  -- Where the lines were played and the arranged text was put, what was put is one line feed after a text that reads
+  -- back as the fragment which is opened after the lines. The replies to the lines are not put.
   abbrev pub ArrangedReadsBack : Type 0
   ArrangedReadsBack = (by : Layout) (columns : ℕ) (lines : List (List ℕ)) (old new : World)
       → Arranges def by columns lines old new ends_with.Done
@@ -159,7 +159,8 @@ pub record HasDefinition (world : World) (file : Name) : Type 0 where
   pub def : Definition
   pub accepted : IsAccepted (bytes_of held file) def
 
--- the file of a layout is known, short enough, and no line of it is refused for the definition that the other file holds
+-- the file of a layout is known, short enough, and no line of it is refused for the definition that the other file
+-- holds
 pub record HasLayout (world : World) (definition rules : Name) : Type 0 where
   pub held : Held
   pub known : world.files.held ≡ Some held
@@ -167,8 +168,8 @@ pub record HasLayout (world : World) (definition rules : Name) : Type 0 where
   pub faultless : (def : Definition) → IsAccepted (bytes_of held definition) def
       → (line code : ℕ) → LayoutRefusal def (bytes_of held rules) line code → ⊥
 
--- The name is that of a kind of which a program may be, and the bytes without their comments are a program of it. Where it
--- is asked for, the bytes are the text that they are to be.
+-- The name is that of a kind of which a program may be, and the bytes without their comments are a program of it. Where
+-- it is asked for, the bytes are the text that they are to be.
 pub record IsRight (def : Definition) (comment : Option Name) (name : Name) (bytes : List ℕ) (checks : Bool)
     : Type 0 where
   pub some_kind : ((kind : Kind) → kind_name_of def kind ≡ Some name → ⊥) → ⊥
@@ -193,7 +194,8 @@ pub record IsFaultless (def : Definition) (comment : Option Name) (name : Name) 
   pub some_kind : ((kind : Kind) → kind_name_of def kind ≡ Some name → ⊥) → ⊥
   pub quiet : (kind : Kind) → kind_name_of def kind ≡ Some name → IsDeclaringPhylum def kind → ⊥
   pub faultless : (kind : Kind) → kind_name_of def kind ≡ Some name → (comments : List Comment)
-      (own : List ℕ) → IsWithout (fixed_words def) comment bytes comments own → (text : List ℕ) (limited : Bool) (found : List Finding)
+      (own : List ℕ) → IsWithout (fixed_words def) comment bytes comments own
+      → (text : List ℕ) (limited : Bool) (found : List Finding)
       (more : Bool) → IsReport def kind own text limited found more → has_error found ≡ false
 
 -- the file of a program is known, short enough, and without errors for the definition that the other file holds
@@ -214,9 +216,8 @@ ScriptGoesWell old new definition script =
     HasDefinition old definition × WasRead old new definition × IsShort old script most_script_bytes
     × WasRead old new script
 
--- The definition is accepted, the files are short, a layout has no fault, a program is right or no error is found in it, the
--- run's own reads of them
--- and of the input did not fail, and the sink's count has not risen.
+-- The definition is accepted, the files are short, a layout has no fault, a program is right or no error is found in
+-- it, the run's own reads of them and of the input did not fail, and the sink's count has not risen.
 abbrev pub GoesWell : Form → World → World → Type 0
 GoesWell (check d) old new = HasDefinition old d × WasRead old new d × (HasRisen old.count new.count → ⊥)
 GoesWell (edit d s) old new = ScriptGoesWell old new d s × (HasRisen old.count new.count → ⊥)
@@ -250,8 +251,8 @@ abbrev pub EndsWell : Type 0
 EndsWell = (form : Form) (old new : World) (status : Status) → IsRunOf form old new status → GoesWell form old new
     → (status ≡ ends_with.Done) ⊎ (status ≡ ends_with.Memory)
 
--- Two runs of one form on the definition, which is in this file, that ended well, over files that held the same and none
--- of whose calls failed, wrote the same and left the same in the files.
+-- Two runs of one form on the definition, which is in this file, that ended well, over files that held the same and
+-- none of whose calls failed, wrote the same and left the same in the files.
 abbrev pub HasOneRunOf : Definition → Form → Name → Type 0
 HasOneRunOf def form definition = (held : Held) (old new old' new' : World)
     → IsAccepted (bytes_of held definition) def

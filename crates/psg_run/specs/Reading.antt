@@ -27,8 +27,8 @@ most_definition_bytes = 1048576
 abbrev pub most_script_bytes : ℕ
 most_script_bytes = 4194304
 
--- The bytes, which name no token of comments, are read as the definition and as no other, and no condition of acceptance
--- fails.
+-- The bytes, which name no token of comments, are read as the definition and as no other, and no condition of
+-- acceptance fails.
 pub record IsPlainlyAccepted (bytes : List ℕ) (def : Definition) : Type 0 where
   pub read : IsReadAs bytes def
   pub only : (other : Definition) → Spells bytes other → other ≡ def
@@ -42,16 +42,16 @@ pub data IsRefusalLine (bytes line : List ℕ) : Type 0 where
       → ((other : Definition) → Spells bytes other → other ≡ def) → IsRefusal def fault
       → line ≡ refusal_text def fault → IsRefusalLine bytes line
 
--- The bytes without their lines on comments are read as the definition and as no other, the token of comments fits it, and
--- no condition of acceptance fails.
+-- The bytes without their lines on comments are read as the definition and as no other, the token of comments fits it,
+-- and no condition of acceptance fails.
 pub record IsAccepted (bytes : List ℕ) (def : Definition) : Type 0 where
   pub read : IsReadAs (plain_of bytes) def
   pub fit : AreFit (fixed_words def) (named_in bytes)
   pub only : (other : Definition) → Spells (plain_of bytes) other → other ≡ def
   pub accepted : IsAcceptable def
 
--- The bytes are no definition, also without their lines on comments, and the line names their first fault; or they are only
--- one, which is not accepted, and the line names the first condition that fails.
+-- The bytes are no definition, also without their lines on comments, and the line names their first fault; or they are
+-- only one, which is not accepted, and the line names the first condition that fails.
 pub data IsFileRefusalLine (bytes line : List ℕ) : Type 0 where
   no_file : (fault : FileFault) → FileRefusal bytes fault → line ≡ file_fault_text fault → IsFileRefusalLine bytes line
   not_acceptable : (def : Definition) (fault : AcceptFault) → IsCommented bytes def

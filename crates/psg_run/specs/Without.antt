@@ -9,8 +9,8 @@ use Rattle.psg_comments.specs.declared.finding.Comment.{Comment}
 abbrev pub mark_of : List ℕ → List ℕ
 mark_of bytes = take (length bytes - length (unmarked bytes)) bytes
 
--- These are the comments of the file and its bytes, with a space for each byte of a comment. Where they are no text, they
--- are as they were.
+-- These are the comments of the file and its bytes, with a space for each byte of a comment. Where they are no text,
+-- they are as they were.
 pub data IsBlankedFile (fixed : List Name) (token bytes : List ℕ) (comments : List Comment) (own : List ℕ)
     : Type 0 where
   is_text : (text : List ℕ) → IsUtf8 (unmarked bytes) → IsBlanked fixed token (unmarked bytes) comments text

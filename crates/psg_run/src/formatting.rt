@@ -40,8 +40,8 @@ use psg_world::{Files, Sink, put_all};
 use std::alloc::{AllocError, Global};
 use std::sync::ledger::Ledger;
 
-/// Returns the phylum or list of the name. Where there is none, or it is a phylum that declares, the line of the refusal
-/// is put, and the status says how that ended.
+/// Returns the phylum or list of the name. Where there is none, or it is a phylum that declares, the line of the
+/// refusal is put, and the status says how that ended.
 pub(crate) fn kind_of<O: Sink>(
     alloc: Global,
     language: &Language,
@@ -67,7 +67,7 @@ pub(crate) fn kind_of<O: Sink>(
     Ok(kind)
 }
 
-/// What is told of a program file, and how the run ends where that is put whole.
+/// What is said of a program file, and how the run ends where that is put whole.
 #[derive(Drop)]
 struct Told {
     text: String,
@@ -194,7 +194,7 @@ fn told_program(
     })
 }
 
-/// Writes what is told of the bytes of the file, where they are given without their comments too.
+/// Writes what is said of the bytes of the file, where they are given without their comments too.
 fn told_of<L: Ledger>(
     alloc: Global,
     defined: &Defined,
@@ -239,7 +239,7 @@ pub(crate) fn put_text<O: Sink>(alloc: Global, out: &mut O, text: &str, done: St
     }
 }
 
-/// Puts what is told of the bytes of the file, and returns how that ended.
+/// Puts what is said of the bytes of the file, and returns how that ended.
 fn tell<O: Sink, L: Ledger>(
     alloc: Global,
     defined: &Defined,
@@ -268,7 +268,7 @@ fn tell<O: Sink, L: Ledger>(
     }
 }
 
-/// Puts what is told of the bytes of the file without their comments, and returns how that ended.
+/// Puts what is said of the bytes of the file without their comments, and returns how that ended.
 fn tell_without<O: Sink, L: Ledger>(
     alloc: Global,
     defined: &Defined,
@@ -292,7 +292,7 @@ fn tell_without<O: Sink, L: Ledger>(
     tell(alloc, defined, kind, file, bytes, &own, checks, out, steps)
 }
 
-/// Reads the file and puts what is told of it.
+/// Reads the file and puts what is said of it.
 fn tell_file<F: Files, O: Sink, L: Ledger>(
     alloc: Global,
     defined: &Defined,
@@ -327,7 +327,7 @@ fn tell_file<F: Files, O: Sink, L: Ledger>(
     )
 }
 
-/// Looks up the kind, reads the file, and puts what is told of it.
+/// Looks up the kind, reads the file, and puts what is said of it.
 fn tell_kind<F: Files, O: Sink, L: Ledger>(
     alloc: Global,
     defined: &Defined,
@@ -352,8 +352,8 @@ fn tell_kind<F: Files, O: Sink, L: Ledger>(
 }
 
 /// Puts the text that the file is to have, which has a program of the kind; or where it only checks, the first line in
-/// which it does not have it. Comments are kept. The order of tests is: the definition is read, its length, whether it is
-/// one, whether it is accepted, the kind, the file is read, its length, then its text.
+/// which it does not have it. Comments are kept. The order of tests is: the definition is read, its length, whether it
+/// is one, whether it is accepted, the kind, the file is read, its length, then its text.
 pub fn format_file<F: Files, O: Sink, L: Ledger>(
     alloc: Global,
     definition: &str,

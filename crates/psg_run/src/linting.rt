@@ -25,7 +25,7 @@ use psg_world::{Files, Sink};
 use std::alloc::{AllocError, Global};
 use std::sync::ledger::Ledger;
 
-/// What is told of a program file, and how the run ends where that is put whole.
+/// What is said of a program file, and how the run ends where that is put whole.
 #[derive(Drop)]
 struct Told {
     text: String,
@@ -172,8 +172,8 @@ fn tell_kind<F: Files, O: Sink, L: Ledger>(
     tell_file(alloc, defined, kind, file, files, out, steps)
 }
 
-/// Puts what is found in the file without its comments, which is to have a program of the kind. The order of tests is that
-/// of `format`.
+/// Puts what is found in the file without its comments, which is to have a program of the kind. The order of tests is
+/// that of `format`.
 pub fn lint_file<F: Files, O: Sink, L: Ledger>(
     alloc: Global,
     definition: &str,

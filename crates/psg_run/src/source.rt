@@ -42,7 +42,8 @@ pub fn write_status(stop: WriteStop) -> Status
     }
 }
 
-/// Returns the bytes of the file, if they are at most so many. Otherwise it returns the status with which the run ends.
+/// Returns the bytes of the file, if they are at most that many. Otherwise it returns the status with which the run
+/// ends.
 pub fn read_within<F: Files>(
     alloc: Global,
     file: &str,
