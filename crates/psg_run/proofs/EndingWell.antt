@@ -38,7 +38,7 @@ use Rattle.psg_run.specs.Formatting.{no_room_for_program, tells_program}
 use Rattle.psg_run.specs.Framed.{framed_text}
 use Rattle.psg_run.specs.Generated.{Generates, no_room_to_tell, tells}
 use Rattle.psg_run.specs.Live.{EndsInput, IsRepliedLiveBy, Talks, TalksBy, is_at_end, is_unread_line, no_room_for_line}
-use Rattle.psg_run.specs.Linting.{IsLint, Lints, LintsFile, TellsLint, ending, lints_file, no_room_for_lint, no_room_without, tells_lint}
+use Rattle.psg_run.specs.Linting.{IsLint, Lints, LintsFile, TellsLint, lints_file, no_room_for_lint, no_room_without, tells_lint}
 use Rattle.psg_comments.specs.declared.finding.Comment.{Comment}
 use Rattle.psg_run.specs.Without.{IsWithout}
 use Rattle.psg_run.specs.Outputs.{EndsWell, HasDefinition, HasFaultless, HasLayout, HasProgram, IsFaultless, IsRight, IsShort, WasRead}

@@ -1,5 +1,5 @@
 -- Runs that look up a kind, and what they tell of a program file.
-use Rattle.std.proofs.Common.{◌≡◌, ℕ, Bool, true, false, List, [], ◌++◌, sym, ◌∙◌, subst}
+use Rattle.std.proofs.Common.{◌≡◌, ℕ, Bool, true, false, List, [], ◌++◌, sym, subst}
 use Rattle.std.specs.Prelude.{Option, Some, None, IsUtf8, codes, string_bytes}
 use Rattle.psg_terms.specs.Names.{Name}
 use Rattle.psg_grammar.specs.declared.types.Definition.{Definition}

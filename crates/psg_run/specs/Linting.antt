@@ -1,5 +1,5 @@
 -- What `lint` reads and prints: a file that is to be a program of a kind, and all that is found in it.
-use Rattle.std.specs.Prelude.{ℕ, ◌≡◌, Bool, true, false, cond, Option, List, []}
+use Rattle.std.specs.Prelude.{ℕ, ◌≡◌, Bool, cond, Option, List}
 use Rattle.psg_terms.specs.Names.{Name}
 use Rattle.psg_grammar.specs.declared.types.Definition.{Definition}
 use Rattle.psg_grammar.specs.declared.types.Kind.{Kind}

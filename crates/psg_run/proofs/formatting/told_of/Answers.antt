@@ -1,10 +1,7 @@
-use Rattle.std.proofs.Common.{subst, sym}
-use Rattle.std.specs.Prelude.{IsUtf8, string_bytes}
+use Rattle.std.proofs.Common.{subst}
+use Rattle.std.specs.Prelude.{IsUtf8}
 use Rattle.psg_grammar.specs.WellFormed.{fixed_words}
 use Rattle.psg_program.specs.Decoding.{unmarked}
-use Rattle.psg_program.specs.Programs.{IsProgram}
-use Rattle.psg_run.specs.Formatting.{IsTold}
-use Rattle.psg_run.proofs.Onward.{map_if_ok}
 use Rattle.psg_run.proofs.ProgramFiles.{text_there}
 use Rattle.psg_run.proofs.formatting.told_of.Goals as goal
 

@@ -7,8 +7,7 @@ use Rattle.psg_run.proofs.without.blank_file.Goals as goal
 pub returns : goal.returns
 returns c =
     let found = c.in_ok-blanked.field-0 in
-    let own : c.as_slice.result.now ≡ found.bytes.items =
-    c.as_slice.ensures.value ∙ ap (λ v. v.items) c.in_ok-blanked.blanked-is in
+    let own : c.as_slice.result.now ≡ found.bytes.items = c.as_slice.ensures.value in
     is_text found.bytes.items (subst IsUtf8 c.unmarked-rest.ensures c.in-Ok.ensures.cases.1)
     (subst (λ t. IsBlanked c.args.lexis.now c.args.token.now t found.comments.items found.bytes.items)
     (c.in-Ok.ensures.cases.0 ∙ c.unmarked-rest.ensures) c.in_ok-blanked.ensures)
