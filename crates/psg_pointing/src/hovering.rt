@@ -50,8 +50,8 @@ pub(crate) fn mark_size(text: &[u8]) -> usize
     text.len() - unmarked(text).len()
 }
 
-/// Returns the byte of what is judged.
-pub(crate) fn own_byte(text: &[u8], byte: usize) -> usize
+/// Returns the byte of what is judged: of the text without its byte order mark. It takes one step.
+pub fn own_byte(text: &[u8], byte: usize) -> usize
     ensures { result ≡ told.own_byte text.now byte }
 {
     let mark = mark_size(text);
@@ -131,8 +131,8 @@ fn relation_read<L: Ledger>(
     Ok(read)
 }
 
-/// Returns the byte of the whole text.
-pub(crate) fn whole_byte(text: &[u8], byte: usize) -> usize
+/// Returns the byte of the whole text, with its byte order mark. It takes one step.
+pub fn whole_byte(text: &[u8], byte: usize) -> usize
     requires { byte ≤ length (unmarked_of text.now) }
     ensures { result ≡ told.mark_size text.now + byte }
 {

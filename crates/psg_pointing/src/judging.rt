@@ -175,7 +175,10 @@ pub fn judge<L: Ledger>(
 
 /// Returns what is known of the text that was read as the program. `None` where the program passes a limit of the
 /// evaluator.
-pub(crate) fn judged_of<L: Ledger>(
+///
+/// `steps` counts the evaluations. It fails where memory runs out. It takes an evaluation of each node, and where the
+/// program is wrong the search for its blamed places.
+pub fn judged_of<L: Ledger>(
     alloc: Global,
     language: &Language,
     kind: Kind,

@@ -17,6 +17,6 @@ pub mod laws;
 mod pointing;
 mod telling;
 
-pub use hovering::{Hover, hover_at};
-pub use judging::{Judged, judge};
+pub use hovering::{Hover, hover_at, own_byte, whole_byte};
+pub use judging::{Judged, judge, judged_of};
 pub use pointing::{begin_of, finish_of, pointed};

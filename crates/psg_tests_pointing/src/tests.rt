@@ -1,7 +1,8 @@
-//! What is told of the node at a byte.
+//! What is told of the node at a byte, and what may be put there.
 ghost use Rattle.std.specs.Prelude.{◌≡◌, ◌<◌, IfOk, IfSome};
 ghost use Rattle.psg_grammar.specs.Kinds.{HasKind};
 
+use psg_completing::{Completion, completion_at};
 use psg_defread::read_definition;
 use psg_grammar::{Definition, Kind};
 use psg_langs::MINI;
@@ -60,6 +61,24 @@ fn hover_text(alloc: Global, hover: &Hover) -> Result<String, AllocError> {
     Ok(text)
 }
 
+/// Writes the bytes of the word, what is written before and after an entry, and the entries.
+fn completion_text(alloc: Global, made: &Completion) -> Result<String, AllocError> {
+    let mut text = String::new(alloc);
+    let before = made.before.as_str();
+    let behind = made.behind.as_str();
+    write!(&mut text, "{}-{} [{before}][{behind}] ", made.from, made.to)?;
+    for entry in made.entries.as_slice() {
+        text.push_str(entry.operator.as_str())?;
+        text.push('=')?;
+        text.push_str(entry.text.as_str())?;
+        text.push('|')?;
+    }
+    if made.incomplete {
+        text.push_str("..")?;
+    }
+    Ok(text)
+}
+
 /// Returns what is told of the node at the byte.
 fn told<L: Ledger>(
     alloc: Global,
@@ -88,6 +107,34 @@ fn told_in(
     byte: usize,
 ) -> Result<String, AllocError> {
     told::<Brand>(alloc, language, text.as_bytes(), byte, Blank::new(1))
+}
+
+/// Returns what may be put at the byte.
+fn put<L: Ledger>(
+    alloc: Global,
+    language: &Language,
+    bytes: &[u8],
+    byte: usize,
+    ledger: Blank,
+) -> Result<String, AllocError>
+    requires name { ledger.name ≡ L.name }
+    requires parts { ledger.parts ≡ L.parts }
+    requires some { 0 < L.parts }
+{
+    let mut steps = Steps::<L>::of(ledger);
+    let kind = first_kind(language)?;
+    let made = completion_at(alloc, language, kind, bytes, byte, &mut steps)?;
+    completion_text(alloc, &made)
+}
+
+/// Returns what may be put at the byte.
+fn put_in(
+    alloc: Global,
+    language: &Language,
+    text: &str,
+    byte: usize,
+) -> Result<String, AllocError> {
+    put::<Brand>(alloc, language, text.as_bytes(), byte, Blank::new(1))
 }
 
 /// A program that has a completion.
@@ -132,6 +179,65 @@ fn nodes_are_told(rt: HostRuntime) -> Result<(), Fail> {
     for row in HOVERS {
         let told = told_in(alloc, &language, row.0, row.1)?;
         assert_eq!(&rt; told.as_str(), row.2);
+    }
+    Ok(())
+}
+
+/// A text, a byte, and what may be put there.
+const ENTRIES: &[(&str, usize, &str)] = &[
+    // a placeholder: the operators of `menu`, and each name that fits
+    (
+        RIGHT,
+        46,
+        "44-48 [][] ref=n|tru=true|not=not ?Exp|cat=?Exp & ?Exp|eq=?Exp = ?Exp|idx=?Exp[?Exp]|",
+    ),
+    // no name begins so
+    (
+        "begin\n  var n : bool\ndo\n  n := true;\n  n := tr\nend",
+        46,
+        "44-46 [][] tru=true|not=not ?Exp|cat=?Exp & ?Exp|eq=?Exp = ?Exp|idx=?Exp[?Exp]|",
+    ),
+    // what binds less than `not` is in brackets
+    (
+        "begin\n  var n : bool\ndo\n  n := true;\n  n := not \nend",
+        48,
+        "48-48 [][] ref=n|tru=true|not=not ?Exp|cat=(?Exp & ?Exp)|eq=(?Exp = ?Exp)|idx=?Exp[?Exp]|",
+    ),
+    // a symbol is beside it
+    (
+        "begin\n  var n : int\ndo\n  n :=\nend",
+        29,
+        "29-29 [ ][] ref=n|num=0|plus=?Exp + ?Exp|idx=?Exp[?Exp]|",
+    ),
+    // a word is beside it
+    (
+        "begin\n  var n : bool\ndo\n  while?Exp do skip od\nend",
+        33,
+        "31-35 [ ][] ref=n|tru=true|not=not ?Exp|cat=?Exp & ?Exp|eq=?Exp = ?Exp|idx=?Exp[?Exp]|",
+    ),
+    // a statement after another, with the separator that is missing
+    (
+        "begin\n  var n : bool\ndo\n  n := true\n  \nend",
+        38,
+        "38-38 [; ][] block=begin ... do ... end|assign=n := ?Exp|while=while ?Exp do ... od|skip=skip|",
+    ),
+    // a statement before another; the variable does not begin so
+    (
+        "begin\n  var n : bool\ndo\n  sk\n  n := true\nend",
+        28,
+        "26-28 [][ ;] block=begin ... do ... end|while=while ?Exp do ... od|skip=skip|",
+    ),
+    // nothing reads there
+    ("begin (", 7, "7-7 [][] "),
+];
+
+#[test]
+fn entries_are_told(rt: HostRuntime) -> Result<(), Fail> {
+    let alloc = rt.alloc();
+    let language = mini(alloc)?;
+    for row in ENTRIES {
+        let made = put_in(alloc, &language, row.0, row.1)?;
+        assert_eq!(&rt; made.as_str(), row.2);
     }
     Ok(())
 }

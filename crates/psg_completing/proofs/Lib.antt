@@ -1,0 +1,10 @@
+pub mod Once
+pub mod Fits
+pub mod Arounds
+pub mod Sampling
+pub mod Offers
+pub mod Completions
+pub mod Pieces
+pub mod Listing
+pub mod Slots
+pub mod Levels
