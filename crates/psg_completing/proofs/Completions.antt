@@ -19,7 +19,7 @@ use Rattle.psg_completing.specs.Around.{IsWordAround}
 use Rattle.psg_pointing.specs.Hovering.{mark_size, own_byte, spot_at}
 use Rattle.psg_completing.specs.Offering.{AreOffersIn, IsCompleted, IsCompletedAt, IsCompletion, IsEmpty, IsOfferedAt, inside, none_fits, offers, prefix_of, put_before, put_behind, too_much}
 use Rattle.psg_completing.specs.Samples.{IsLeast}
-use Rattle.psg_completing.proofs.Fits.{it_fits}
+use Rattle.psg_completing.proofs.Fits.{placed_by}
 
 pub judged_in : (def : Definition) (kind : Kind) (own : List ℕ) (j : Judged) → IsKnownOf def kind own (Some j)
     → IsJudged def kind own j
@@ -50,7 +50,7 @@ module _ (def : Definition) (kind : Kind) (own : List ℕ) (w : Word) (from to :
       (tree_in j.note) fit.path
   placed fit is j same =
       subst (λ f. HasPlaceholder def kind (filled def own w fit.filling) (mark_byte def w fit.filling)
-          fit.filling.phylum f fit.path) (sym same) (it_fits def kind own w fit.filling fit is).2
+          fit.filling.phylum f fit.path) (sym same) (placed_by def kind own w fit.filling fit is)
 
   pub completed_offers : (fit : Fitted) → IsFitted def kind own w fit.filling fit
       → IsFirst (Fits def kind own w) (fillings def) (Some fit.filling) → (j : Judged)
@@ -66,7 +66,7 @@ module _ (def : Definition) (kind : Kind) (own : List ℕ) (w : Word) (from to :
         incomplete = o.more;
       })
   completed_offers fit is first j known same o there before behind b h =
-      let (least, level, told, is_told, are) = there in
+      let (least, level, (told, is_told, are)) = there in
       record {
         from_is = refl;
         to_is = refl;

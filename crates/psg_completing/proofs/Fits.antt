@@ -29,6 +29,9 @@ use Rattle.psg_parse.specs.declared.fault.ParseFault.TheVariants as faults
 use Rattle.psg_program.specs.declared.reading.Program.{Program}
 use Rattle.psg_program.specs.Programs.{IsProgramText, IsReadFrom, goal_of}
 use Rattle.psg_ranges.specs.declared.ranges.Range.{Range}
+use Rattle.psg_tree.specs.declared.tree.Part.{Part}
+use Rattle.psg_tree.specs.declared.tree.Part.TheVariants.{Sub, Name, Number, Text}
+use Rattle.psg_tree.specs.Shapes.{list_of, with_parts}
 use Rattle.psg_ranges.specs.Forests.{Forest, nodes_of, ranges_in}
 use Rattle.psg_completing.specs.declared.around.Word.{Word}
 use Rattle.psg_completing.specs.declared.fillings.Filling.{Filling}
@@ -51,6 +54,26 @@ hole_is phylum (with_number f n) e = absurd (false≢true e)
 hole_is phylum (with_text f t) e = absurd (false≢true e)
 hole_is phylum anything e = absurd (false≢true e)
 hole_is phylum (observed f) e = absurd (false≢true e)
+
+hole_with : (phylum : ℕ) (f : Fragment) (parts : List Part) → is_hole phylum f ≡ false
+    → is_hole phylum (with_parts f parts) ≡ false
+hole_with phylum f [] e = e
+hole_with phylum f (Sub t ∷ parts) e = hole_with phylum _ parts refl
+hole_with phylum f (Name n ∷ parts) e = hole_with phylum _ parts refl
+hole_with phylum f (Number n ∷ parts) e = hole_with phylum _ parts refl
+hole_with phylum f (Text t ∷ parts) e = hole_with phylum _ parts refl
+
+pub operator_no_hole : (phylum op : ℕ) (parts : List Part) (f : Fragment) → with_parts (operator op) parts ≡ f
+    → false ≡ is_hole phylum f
+operator_no_hole phylum op parts f e = sym (hole_with phylum (operator op) parts refl) ∙ ap (is_hole phylum) e
+
+list_hole : (phylum l : ℕ) (es : List Fragment) (u : Bool) → is_hole phylum (list_of l es u) ≡ false
+list_hole phylum l [] u = refl
+list_hole phylum l (e ∷ es) u = refl
+
+pub list_no_hole : (phylum l : ℕ) (es : List Fragment) (u : Bool) (f : Fragment) → list_of l es u ≡ f
+    → false ≡ is_hole phylum f
+list_no_hole phylum l es u f e = sym (list_hole phylum l es u) ∙ ap (is_hole phylum) e
 
 pub hole_there : (phylum : ℕ) (o : Option Fragment) → is_hole_by phylum o ≡ true → o ≡ Some (hole phylum)
 hole_there phylum None e = absurd (false≢true e)
@@ -167,8 +190,9 @@ module _ (def : Definition) (class : IsClass def) (kind : Kind) (text : List ℕ
 -- ---- fillings
 
 module _ (def : Definition) (kind : Kind) (own : List ℕ) (w : Word) where
-  pub it_fits : (f : Filling) (fit : Fitted) → IsFitted def kind own w f fit → Fits def kind own w f
-  it_fits f fit is = (fit.program.tree, fit.path, record {
+  pub placed_by : (f : Filling) (fit : Fitted) → IsFitted def kind own w f fit
+      → HasPlaceholder def kind (filled def own w f) (mark_byte def w f) f.phylum fit.program.tree fit.path
+  placed_by f fit is = record {
     is_text = is.read.is_text;
     program = is.read.program;
     tokens = fit.program.tokens.items;
@@ -177,7 +201,10 @@ module _ (def : Definition) (kind : Kind) (own : List ℕ) (w : Word) where
     yields = is.read.read.yields;
     pointed = is.placeholder.pointed is.read.read.nesting is.read.read.yields;
     there = is.placeholder.there;
-  })
+  }
+
+  pub it_fits : (f : Filling) (fit : Fitted) → IsFitted def kind own w f fit → Fits def kind own w f
+  it_fits f fit is = (fit.program.tree, fit.path, placed_by f fit is)
 
 -- whatever is the first of the rest is the first of all
 abbrev pub IsLeft : (Filling → Type 0) → List Filling → List Filling → Type 0

@@ -1,5 +1,5 @@
 -- The level that is wanted at a path.
-use Rattle.std.proofs.Common.{◌≡◌, ℕ, List, [], ◌∷◌, ◌++◌, Option, Some, None, slice_get, sym, ap, subst, ◌∙◌}
+use Rattle.std.proofs.Common.{◌≡◌, Bool, ℕ, List, [], ◌∷◌, ◌++◌, length, Option, Some, None, slice_get, refl, sym, ap, subst, ◌∙◌, arith}
 use Rattle.std.specs.Prelude.{option_and_then}
 use Rattle.psg_terms.proofs.Lists.{each_at}
 use Rattle.psg_grammar.specs.declared.types.Definition.{Definition}
@@ -8,6 +8,7 @@ use Rattle.psg_grammar.specs.Fragments.{Fragment, top_operator}
 use Rattle.psg_grammar.specs.Lookups.{operator_at}
 use Rattle.psg_grammar.specs.Paths.{Path, node_at}
 use Rattle.psg_grammar.specs.Sound.{IsLevel, IsOperator, IsSound}
+use Rattle.psg_tree.specs.Shapes.{list_of}
 use Rattle.psg_unparse.specs.Rows.{operator_of}
 use Rattle.psg_completing.specs.Samples.{IsLeast, below, operator_by, whole}
 use Rattle.psg_completing.specs.Wanted.{IsLeastUnder, of_no_operator}
@@ -48,3 +49,11 @@ module _ (def : Definition) (number : ℕ) where
 
 pub at_root : (def : Definition) (tree : Fragment) (path : List ℕ) → path ≡ [] → IsLeast def tree path 0
 at_root def tree path e = subst (λ p. IsLeast def tree p 0) (sym e) whole
+
+pub no_steps : (path : List ℕ) → length path ≡ 0 → path ≡ []
+no_steps [] e = refl
+no_steps (k ∷ path) e = absurd (omega (arith, e))
+
+pub no_top : (l : ℕ) (es : List Fragment) (u : Bool) → None ≡ top_operator (list_of l es u)
+no_top l [] u = refl
+no_top l (e ∷ es) u = refl

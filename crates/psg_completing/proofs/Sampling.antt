@@ -9,7 +9,8 @@ use Rattle.psg_grammar.specs.declared.types.Definition.{Definition}
 use Rattle.psg_grammar.specs.declared.types.Item.{Item}
 use Rattle.psg_grammar.specs.declared.types.Operator.{Operator}
 use Rattle.psg_grammar.specs.Fragments.{Fragment, operator}
-use Rattle.psg_grammar.specs.Lookups.{items_of, operator_at}
+use Rattle.psg_grammar.specs.Lookups.{operator_at}
+use Rattle.psg_unparse.specs.Rows.{items_in}
 use Rattle.psg_tree.specs.declared.tree.Part.{Part}
 use Rattle.psg_tree.specs.Shapes.{with_part, with_parts}
 use Rattle.psg_completing.specs.Samples.{sample, with_line, with_lines, with_sample, with_samples}
@@ -30,8 +31,8 @@ pub sample_first : (def : Definition) (name : Name) (op : ℕ) (o : Operator) (i
 sample_first def name op o items parts is i none =
     ap (λ ps. with_samples def name (with_parts (operator op) ps) items) none
     ∙ ap (with_samples def name (operator op)) (i ∙ own_items) where
-    own_items : o.items ≡ items_of (operator_at def op)
-    own_items = sym (ap items_of is)
+    own_items : o.items ≡ items_in (operator_at def op)
+    own_items = sym (ap items_in is)
 
 pub sample_next : (def : Definition) (name : Name) (op : ℕ) (items : List Item) (i : ℕ) (item : Item)
     (old new : List Part) (whole : Fragment) → i < length items → item ≡ get_or items i item

@@ -56,8 +56,8 @@ pub slot_here : (o : Operator) (row : List Item) (i : ℕ) (x : Item) (number le
     → i < length row → x ≡ get_or row i x → slot ≡ is_slot x → (slot && (left == 0)) ≡ true
     → count_by is_slot (take i row) + left ≡ number → IsSlotOf o number i
 slot_here o row i x number left slot same lt is so due h =
-    let (yes, none) = both_true slot (left == 0) due in
-    let (kind, own) = slot_is x (sym so ∙ yes) in
+    let (one, none) = both_true slot (left == 0) due in
+    let (kind, own) = slot_is x (sym so ∙ one) in
     let zero_left : left ≡ 0 = eqb-true left 0 none in
     record {
       is_slot_there = (kind,

@@ -9,10 +9,10 @@ use Rattle.psg_grammar.specs.declared.types.Item.TheVariants as items
 use Rattle.psg_grammar.specs.declared.types.Operator.{Operator}
 use Rattle.psg_grammar.specs.Fragments.{Fragment, operator, with_child, with_name, with_number, with_text}
 use Rattle.psg_grammar.specs.Insertion.{blank}
-use Rattle.psg_grammar.specs.Lookups.{items_of, operator_at}
+use Rattle.psg_grammar.specs.Lookups.{operator_at}
 use Rattle.psg_grammar.specs.Paths.{Path, node_at}
 use Rattle.psg_unparse.specs.Layout.{text_of}
-use Rattle.psg_unparse.specs.Rows.{is_below_level, operator_of}
+use Rattle.psg_unparse.specs.Rows.{is_below_level, items_in, operator_of}
 use Rattle.psg_completing.specs.Wanted.{IsLeastUnder}
 
 -- ---- an operator with nothing in it
@@ -32,7 +32,7 @@ with_samples def name f [] = f
 with_samples def name f (i ∷ rest) = with_samples def name (with_sample def name f i) rest
 
 abbrev pub sample : Definition → Name → ℕ → Fragment
-sample def name o = with_samples def name (operator o) (items_of (operator_at def o))
+sample def name o = with_samples def name (operator o) (items_in (operator_at def o))
 
 -- ---- its text
 

@@ -1,5 +1,5 @@
 //! What is put in place of a word so that a text becomes a program.
-ghost use Rattle.std.specs.Prelude.{◌≡◌, ◌==◌, ◌≤◌, ◌++◌, ◌∷◌, IfOk, OnOk, length, slice_get, string_bytes};
+ghost use Rattle.std.specs.Prelude.{◌≡◌, ◌==◌, ◌≤◌, ◌++◌, ◌∷◌, [], IfOk, OnOk, drop, length, slice_get, string_bytes, take};
 ghost use Rattle.psg_grammar.specs.Sound.{IsSound};
 ghost use Rattle.psg_completing.specs.Fillings as filling;
 
@@ -54,6 +54,23 @@ fn push_list(
     Ok(())
 }
 
+/// Adds the fillings of a phylum with separators: before and after that of each list of its trees.
+fn push_lists(
+    found: &mut Vec<Filling>,
+    definition: &Definition,
+    phylum: u32,
+) -> Result<(), AllocError>
+    requires { IsSound definition.now }
+    ensures { OnOk result (found.new.items
+        ≡ found.old.items ++ filling.lists_from phylum 0 definition.now.lists) }
+{
+    let lists = definition.lists.as_slice();
+    for number in 0..lists.len() {
+        push_list(found, phylum, number as u32, &lists[number])?;
+    }
+    Ok(())
+}
+
 /// Adds the fillings of a phylum: the placeholder alone, and before and after the separator of each list of its trees.
 fn push_phylum(
     found: &mut Vec<Filling>,
@@ -66,10 +83,7 @@ fn push_phylum(
 {
     let side = Side::Alone;
     found.push(Filling { phylum, side })?;
-    let lists = definition.lists.as_slice();
-    for number in 0..lists.len() {
-        push_list(found, phylum, number as u32, &lists[number])?;
-    }
+    push_lists(found, definition, phylum)?;
     Ok(())
 }
 
@@ -143,6 +157,48 @@ pub(crate) struct Trial {
     pub(crate) byte: usize,
 }
 
+/// Returns the bytes before the place.
+fn bytes_before(own: &[u8], place: usize) -> &[u8]
+    requires { place ≤ length own.now }
+    ensures { result.now ≡ take place own.now }
+{
+    &own[..place]
+}
+
+/// Returns the bytes from the place on.
+fn bytes_from(own: &[u8], place: usize) -> &[u8]
+    requires { place ≤ length own.now }
+    ensures { result.now ≡ drop place own.now }
+{
+    &own[place..]
+}
+
+/// Returns the text of a placeholder among what is before and after it, and where the placeholder is.
+fn trial_of(
+    alloc: Global,
+    front: &[u8],
+    head: &str,
+    name: &str,
+    tail: &str,
+    back: &[u8],
+) -> Result<Trial, AllocError>
+    ensures text { IfOk result (λ f. f.text.items
+        ≡ ((((((front.now ++ 32 ∷ []) ++ head.now) ++ 63 ∷ []) ++ name.now) ++ tail.now) ++ 32 ∷ []) ++ back.now) }
+    ensures byte { IfOk result (λ f. f.byte ≡ length ((front.now ++ 32 ∷ []) ++ head.now)) }
+{
+    let mut text = Vec::new(alloc);
+    text.extend_from_slice(front)?;
+    text.push(b' ')?;
+    text.extend_from_slice(head.as_bytes())?;
+    let byte = text.len();
+    text.push(b'?')?;
+    text.extend_from_slice(name.as_bytes())?;
+    text.extend_from_slice(tail.as_bytes())?;
+    text.push(b' ')?;
+    text.extend_from_slice(back)?;
+    Ok(Trial { text, byte })
+}
+
 /// Returns the text with the filling in place of the word, and where its placeholder is.
 pub(crate) fn filled(
     alloc: Global,
@@ -159,17 +215,10 @@ pub(crate) fn filled(
     let first = before(alloc, definition, put.side)?;
     let last = behind(alloc, definition, put.side)?;
     let name = phylum_name(definition, put.phylum);
-    let mut text = Vec::new(alloc);
-    let front = &own[..word.from];
-    let back = &own[word.to..];
-    text.extend_from_slice(front)?;
-    text.push(b' ')?;
-    text.extend_from_slice(first.as_str().as_bytes())?;
-    let byte = text.len();
-    text.push(b'?')?;
-    text.extend_from_slice(name.as_bytes())?;
-    text.extend_from_slice(last.as_str().as_bytes())?;
-    text.push(b' ')?;
-    text.extend_from_slice(back)?;
-    Ok(Trial { text, byte })
+    let front = bytes_before(own, word.from);
+    let back = bytes_from(own, word.to);
+    let head = first.as_str();
+    let tail = last.as_str();
+    let trial = trial_of(alloc, front, head, name, tail, back)?;
+    Ok(trial)
 }

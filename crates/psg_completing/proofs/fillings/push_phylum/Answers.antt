@@ -1,13 +1,11 @@
-use Rattle.std.proofs.Common.{◌∷◌, [], ap, ◌∙◌}
-use Rattle.psg_completing.proofs.Listing.{lists_end, lists_next}
+use Rattle.std.proofs.Common.{◌∷◌, [], ◌++◌, ap, append_assoc, ◌∙◌}
+use Rattle.psg_completing.specs.Fillings.{filling, lists_from}
+use Rattle.psg_completing.specs.declared.fillings.Side.TheVariants.{Alone}
 use Rattle.psg_completing.proofs.fillings.push_phylum.Goals as goal
-
-pub loop-number-preserved : goal.loop-number-preserved
-loop-number-preserved c =
-    lists_next c.args.phylum c.as_slice-lists.result.now c.loop-number.number c.index-lists-number.result _ _ _
-    c.loop-number-test.true c.index-lists-number.is c.in_ok-push_list.ensures c.loop-number.invariant
 
 pub returns : goal.returns
 returns c =
-    lists_end c.args.phylum c.as_slice-lists.result.now c.loop-number.number _ _ c.loop-number-test.false
-    c.loop-number.invariant
+    c.in_ok-push_lists.ensures
+    ∙ ap (λ l. l ++ lists_from c.args.phylum 0 c.args.definition.now.lists) c.in_ok-push.ensures.items
+    ∙ append_assoc c.args.found.now.items (filling c.args.phylum Alone ∷ [])
+    (lists_from c.args.phylum 0 c.args.definition.now.lists)

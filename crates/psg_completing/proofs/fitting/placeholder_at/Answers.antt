@@ -9,8 +9,8 @@ ranges_of-requires c = record {
   class = subst IsClass (sym c.definition-definition.ensures.same) c.definition-definition.ensures.accepted.of_class;
 }
 
-pub returns-then-hole-in-Some-clause-some : goal.returns-then-hole-in-Some-clause-some
-returns-then-hole-in-Some-clause-some c =
+pub returns-then-hole-clause-some : goal.returns-then-hole-clause-some
+returns-then-hole-clause-some c =
     let p = c.args.program.now in
     placeholder_is c.args.language.now c.args.kind p.tokens.items p.tree c.args.byte c.args.phylum c.in_ok-ranges.ranges.nodes
     (made_for c.args.language.now c.args.kind p.tree _ _ p.tokens.items _ c.definition-definition.ensures.same
@@ -30,8 +30,8 @@ returns-in-Some-clause-none c =
     c.as_slice-tokens.ensures.value c.all-all.ensures c.in_ok-found.ensures)
     c.in-Some.path c.in-Some.is (sym c.is_hole_at-hole.ensures ∙ c.if-hole.false)
 
-pub returns-in-None-clause-none : goal.returns-in-None-clause-none
-returns-in-None-clause-none c =
+pub returns-clause-none : goal.returns-clause-none
+returns-clause-none c =
     let p = c.args.program.now in
     no_node_there c.args.language.now c.args.kind p.tokens.items p.tree c.args.byte c.args.phylum
     c.in_ok-ranges.ranges.nodes

@@ -7,18 +7,18 @@ offers_answered-requires g c = c.requires
 
 pub returns-in_ok-offers-in-Some : goal.returns-in_ok-offers-in-Some
 returns-in_ok-offers-in-Some g c =
-    let open = c.args.open in
-    let def = open.known.program.language.now in
-    let kind = open.known.program.kind in
-    let tree = tree_in open.known.program.note.now in
-    offered_for def kind tree open.spot.now open.least open.prefix.now c.in_ok-offers-in-Some.offers _ _
+    let gap = c.args.open in
+    let def = gap.known.program.language.now in
+    let kind = gap.known.program.kind in
+    let tree = tree_in gap.known.program.note.now in
+    offered_for def kind tree gap.spot.now gap.least gap.prefix.now c.in_ok-offers-in-Some.offers _ _
     (told_some c.args.read c.in-Some.told c.in-Some.is) c.in_ok-offers-in-Some.ensures
 
 pub returns-in-None : goal.returns-in-None
 returns-in-None g c =
-    let open = c.args.open in
-    let def = open.known.program.language.now in
-    let kind = open.known.program.kind in
-    let tree = tree_in open.known.program.note.now in
-    nothing_of def kind tree open.spot.now open.least open.prefix.now c.no_offers.result _
+    let gap = c.args.open in
+    let def = gap.known.program.language.now in
+    let kind = gap.known.program.kind in
+    let tree = tree_in gap.known.program.note.now in
+    nothing_of def kind tree gap.spot.now gap.least gap.prefix.now c.no_offers.result _
     (told_nothing c.args.read c.in-None.is) c.no_offers.ensures.entries c.no_offers.ensures.more

@@ -12,7 +12,7 @@ loop-place-init c =
 pub loop-place-preserved : goal.loop-place-preserved
 loop-place-preserved c =
     sample_next c.args.definition.now c.args.name.now c.args.op c.as_slice-items.result.now c.loop-place.place
-    c.index-items-place.result c.loop-place.parts.items _ _ c.loop-place-test.true c.index-items-place.is
+    c.index-items-place.result c.loop-place.parts.items c.push_sample.new.parts.items _ c.loop-place-test.true c.index-items-place.is
     c.in_ok-push_sample.ensures c.loop-place.invariant
 
 pub returns : goal.returns

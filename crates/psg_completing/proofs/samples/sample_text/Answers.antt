@@ -17,5 +17,5 @@ returns c =
     ∙ ap₂ in_brackets
     (c.is_below-below.ensures ∙ ap (λ o. is_below_level o c.args.least) (sym c.requires.operator))
     (c.in_ok-line.ensures
-      ∙ ap one_line (c.as_str-whole.ensures.value ∙ ap (λ p. p.text) c.in_ok-printed.ensures.printed
+      ∙ ap one_line (c.as_str-whole.ensures ∙ ap (λ p. p.text) c.in_ok-printed.ensures.printed
       ∙ ap (text_of c.args.definition.now) c.in_ok-tree.ensures))
