@@ -279,9 +279,9 @@ fn offers_with<L: Ledger>(
         let more = has_more(all);
         return Ok(Offers { entries, more });
     }
-    let entries = one_entry(alloc, open, operator, op)?;
+    let single = one_entry(alloc, open, operator, op)?;
     Ok(Offers {
-        entries,
+        entries: single,
         more: false,
     })
 }

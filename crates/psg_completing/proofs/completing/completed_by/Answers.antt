@@ -18,8 +18,8 @@ offers_in-requires g c =
     (subst (IsKnownOf c.args.language.now c.args.kind own) c.in-Some.is
     (c.in_ok-found.ensures.known own read.is_text read.program read.read))).known
 
-pub returns-in-Some : goal.returns-in-Some
-returns-in-Some g c =
+pub returns-in_ok-behind-in-Some : goal.returns-in_ok-behind-in-Some
+returns-in_ok-behind-in-Some g c =
     let language = c.args.language.now in
     let word = c.args.target.word in
     let own = filled language c.args.own.now word c.args.fit.filling in

@@ -1,4 +1,5 @@
-use Rattle.std.proofs.Common.{◌∷◌, [], ap, ◌∙◌}
+use Rattle.std.proofs.Common.{◌++◌, ap, ◌∙◌}
+use Rattle.psg_completing.specs.Fillings.{lists_from}
 use Rattle.psg_completing.proofs.Listing.{lists_end, lists_next}
 use Rattle.psg_completing.proofs.fillings.push_lists.Goals as goal
 
@@ -11,3 +12,4 @@ pub returns : goal.returns
 returns c =
     lists_end c.args.phylum c.as_slice-lists.result.now c.loop-number.number _ _ c.loop-number-test.false
     c.loop-number.invariant
+    ∙ ap (λ l. c.args.found.now.items ++ lists_from c.args.phylum 0 l) c.as_slice-lists.ensures

@@ -47,9 +47,9 @@ returns g c =
     let own = ap (λ d. operator_at d c.args.op) (sym c.definition-definition.ensures.same)
     ∙ c.operator_of-operator.ensures in
     by_itself_of def gap.known.program.kind (tree_in gap.known.program.note.now) gap.spot.now gap.least gap.prefix.now
-    c.args.op c.operator_of-operator.result.now.name c.args.name.now c.in_ok-entries.entries.items c.requires.name
+    c.args.op c.operator_of-operator.result.now.name c.args.name.now c.in_ok-single.single.items c.requires.name
     (own_name (operator_at def c.args.op) c.operator_of-operator.result.now c.args.name.now own c.requires.name)
     (ap one_name (sym (c.as_slice-row.ensures.value ∙ c.in_ok-leaves.ensures
         ∙ ap (λ d. leaves_of d c.args.name.now) c.definition-definition.ensures.same))
       ∙ sym c.one_name-named.ensures ∙ c.if-named.false)
-    c.in_ok-entries.ensures
+    c.in_ok-single.ensures
