@@ -30,7 +30,7 @@ introduced body = 27 ∷ 91 ∷ body
 abbrev pub moved_to : ℕ → ℕ → List ℕ
 moved_to row col = introduced (decimal row ++ (59 ∷ (decimal col ++ (72 ∷ []))))
 
--- the bytes of an order on a screen of so many columns
+-- the bytes of an order on a screen of that many columns
 abbrev pub bytes_of : ℕ → Order → List ℕ
 bytes_of cols (Move place) = moved_to (place / cols + 1) (place % cols + 1)
 bytes_of cols Erase = introduced (codes "2J")

@@ -16,7 +16,7 @@ pub record Sketched : Type 0 where
 abbrev pub empty_sketch : ℕ → ℕ → Sketched
 empty_sketch rows cols = record { rows = rows; cols = cols; above = []; row = [] }
 
--- the character has width 1 or 2, and so many columns are left
+-- the character has width 1 or 2, and that many columns are left
 abbrev pub has_room : ℕ → ℕ → ℕ → Bool
 has_room cols column c = ((width_of c == 1) || (width_of c == 2)) && nat_le (column + width_of c) cols
 
@@ -35,7 +35,7 @@ row_after cols row c style =
 abbrev pub with_char : ℕ → Style → Sketched → Sketched
 with_char c style s = record s { row = row_after s.cols s.row c style }
 
--- A row is filled with so many spaces of the style. One after the last row of the picture is left out.
+-- A row is filled with that many spaces of the style. One after the last row of the picture is left out.
 abbrev pub with_row : ℕ → ℕ → Style → List Slot → List Slot → List Slot
 with_row total left style above row =
     if nat_lt (length above) total then above ++ columns row ++ replicate left (cell_of 32 style) else above

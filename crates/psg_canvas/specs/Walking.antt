@@ -11,7 +11,7 @@ pub record IsKnown (at : Option ℕ) (style : Option Style) (t : Terminal) : Typ
   pub place : KnowsPlace at t
   pub look : KnowsStyle style t
 
--- a terminal of rows of `cols` columns, that has so many columns in all
+-- a terminal of rows of `cols` columns, that has that many columns in all
 pub record HasColumns (cols count : ℕ) (t : Terminal) : Type 0 where
   pub wide : t.cols ≡ cols
   pub whole : size_of t ≡ count

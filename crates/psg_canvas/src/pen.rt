@@ -21,7 +21,7 @@ pub(crate) struct Pen {
 }
 
 impl Pen {
-    /// Makes the pen for a screen of so many columns, of which nothing is known.
+    /// Makes the pen for a screen of that many columns, of which nothing is known.
     pub(crate) fn new(alloc: Global, cols: usize) -> Pen
         ensures cols { result.cols ≡ cols }
         ensures out { string_bytes result.out ≡ [] }
@@ -152,7 +152,7 @@ impl Pen {
     }
 }
 
-/// Returns the place after a cell of so many columns, which is not known at the end of a row.
+/// Returns the place after a cell of that many columns, which is not known at the end of a row.
 fn place_past(cols: usize, place: usize, width: usize) -> Option<usize>
     requires cols { 0 < cols }
     requires next { place + width < 2 ^ 64 }

@@ -38,7 +38,7 @@ impl Model for Sketch {
 }
 
 impl Sketch {
-    /// Begins a picture of so many rows and columns. Takes the memory for its columns.
+    /// Begins a picture of that many rows and columns. Takes the memory for its columns.
     pub fn new(alloc: Global, rows: u32, cols: u32) -> Result<Sketch, AllocError>
         ensures { IfOk result (λ s. s ≡ empty_sketch rows cols) }
     {
@@ -112,7 +112,7 @@ impl Sketch {
     }
 }
 
-/// Returns the number of columns of so many rows.
+/// Returns the number of columns of that many rows.
 fn count(rows: u32, cols: u32) -> usize
     ensures { result ≡ rows * cols }
 {
@@ -162,7 +162,7 @@ fn join(row: &mut Vec<Slot>, mark: char) -> Result<(), AllocError>
     Ok(())
 }
 
-/// Says whether the character has width 1 or 2, and a row has so many columns left.
+/// Says whether the character has width 1 or 2, and a row has that many columns left.
 fn has_room(cols: usize, column: usize, c: char) -> bool
     requires { column ≤ cols }
     ensures { result ≡ has_room cols column c }
@@ -171,7 +171,7 @@ fn has_room(cols: usize, column: usize, c: char) -> bool
     (width == 1 || width == 2) && width <= cols - column
 }
 
-/// Returns the columns with those of a row and so many spaces after it, where they are not all columns already.
+/// Returns the columns with those of a row and that many spaces after it, where they are not all columns already.
 fn with_row(
     alloc: Global,
     total: usize,
@@ -210,7 +210,7 @@ fn push_columns(alloc: Global, slots: &mut Vec<Slot>, cell: Slot) -> Result<(), 
     Ok(())
 }
 
-/// Puts so many further columns of a cell at the end.
+/// Puts that many further columns of a cell at the end.
 fn push_rests(alloc: Global, slots: &mut Vec<Slot>, count: usize) -> Result<(), AllocError>
     ensures { OnOk result (slots.new.items ≡ slots.old.items ++ replicate count rest) }
 {
@@ -220,7 +220,7 @@ fn push_rests(alloc: Global, slots: &mut Vec<Slot>, count: usize) -> Result<(), 
     Ok(())
 }
 
-/// Returns the columns with so many spaces of a style after them.
+/// Returns the columns with that many spaces of a style after them.
 fn with_spaces(
     alloc: Global,
     above: Vec<Slot>,
@@ -236,7 +236,7 @@ fn with_spaces(
     Ok(more)
 }
 
-/// Returns the columns with empty ones after them, up to so many in all.
+/// Returns the columns with empty ones after them, up to that many in all.
 fn fill_up(alloc: Global, above: Vec<Slot>, total: usize) -> Result<Vec<Slot>, AllocError>
     ensures { IfOk result (λ filled. filled.items ≡ filled_up total above.items) }
 {

@@ -7,19 +7,28 @@ ghost use Rattle.psg_canvas.specs.Cells.{plain};
 pub enum Color {
     /// The terminal's own color.
     Own,
+    /// The terminal's red.
     Red,
+    /// The terminal's green.
     Green,
+    /// The terminal's yellow.
     Yellow,
+    /// The terminal's blue.
     Blue,
+    /// The terminal's magenta.
     Magenta,
+    /// The terminal's cyan.
     Cyan,
 }
 
 /// How a cell is written.
 #[derive(Clone, Copy, PartialEq, Eq)]
 pub struct Style {
+    /// The color of the characters.
     pub color: Color,
+    /// Whether the characters are bold.
     pub bold: bool,
+    /// Whether the characters are underlined.
     pub underlined: bool,
     /// The colors of the characters and of what is around them are exchanged.
     pub reversed: bool,

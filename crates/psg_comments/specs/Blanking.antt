@@ -18,6 +18,7 @@ pub record AreSpaces (text : List ℕ) (comments : List Comment) (blanked : List
 
 -- The text has these comments, by the fixed words of the language and the token of its comments, and this is the text
 -- without them.
-pub record IsBlanked (fixed : List Name) (token text : List ℕ) (comments : List Comment) (blanked : List ℕ) : Type 0 where
+pub record IsBlanked (fixed : List Name) (token text : List ℕ) (comments : List Comment)
+    (blanked : List ℕ) : Type 0 where
   pub found : HasComments fixed (chars token) (chars text) 0 comments
   pub spaces : AreSpaces text comments blanked

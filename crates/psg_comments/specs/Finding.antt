@@ -26,9 +26,9 @@ after_line [] = []
 after_line (c ∷ cs) = cond (is_end (c ∷ cs)) (c ∷ cs) (after_line cs)
 
 module _ (fixed : List Name) (token : Chars) where
-  -- From the byte `at` on the characters have these comments. A comment begins where a token of the language would begin,
-  -- if the characters there begin with the token of comments, and goes on to the end of its line. Behind a place where
-  -- neither a comment, nor a blank, nor a token begins there are none.
+  -- From the byte `at` on the characters have these comments. A comment begins where a token of the language would
+  -- begin, if the characters there begin with the token of comments, and goes on to the end of its line. After a place
+  -- where neither a comment, nor a blank, nor a token begins there are none.
   pub data HasComments : Chars → ℕ → List Comment → Type 0 where
     nothing : (at : ℕ) → HasComments [] at []
     blank : (c : ℕ) (cs : Chars) (at : ℕ) (more : List Comment) → IsTrue (is_blank c) → HasComments cs (at + 1) more

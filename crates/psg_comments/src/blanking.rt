@@ -28,8 +28,8 @@ fn fill(bytes: &mut [u8], comment: Comment)
     }
 }
 
-/// Returns the bytes of the text, with a space for each byte of a comment. It fails where memory runs out, and takes time
-/// linear in the text.
+/// Returns the bytes of the text, with a space for each byte of a comment. It fails where memory runs out, and takes
+/// time linear in the text.
 pub fn spaced(alloc: Global, text: &str, comments: &[Comment]) -> Result<Vec<u8>, AllocError>
     ensures { IfOk result (λ bytes. AreSpaces text.now comments.now bytes.items) }
 {
@@ -40,9 +40,9 @@ pub fn spaced(alloc: Global, text: &str, comments: &[Comment]) -> Result<Vec<u8>
     Ok(bytes)
 }
 
-/// Returns the text without its comments, by the lexis of the language and the token of its comments: a space is for each
-/// byte of a comment, so each other byte is where it was, and lines stay lines. It fails where memory runs out, and takes
-/// time linear in the text.
+/// Returns the text without its comments, by the lexis of the language and the token of its comments: a space is for
+/// each byte of a comment, so each other byte is where it was, and lines stay lines. It fails where memory runs out,
+/// and takes time linear in the text.
 pub fn blank_comments(
     alloc: Global,
     lexis: &Lexis,

@@ -73,9 +73,9 @@ fn first_comment(
     }
 }
 
-/// Returns the comments of the text in order, by the lexis of the language and the token of its comments. Behind the first
-/// place where the text has neither a comment nor a token there are none. It fails where memory runs out, and takes time
-/// linear in the text.
+/// Returns the comments of the text in order, by the lexis of the language and the token of its comments. After the
+/// first place where the text has neither a comment nor a token there are none. It fails where memory runs out, and
+/// takes time linear in the text.
 pub fn comments_of(
     alloc: Global,
     lexis: &Lexis,

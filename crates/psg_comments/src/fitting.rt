@@ -44,8 +44,8 @@ fn begins_word(words: &[Txt], token: &str) -> bool
     false
 }
 
-/// Says whether the token may begin comments in a language with these fixed words: it is one run of symbols, and neither
-/// `...` nor one of the words begins with it. It takes a step for each character of the words at most.
+/// Says whether the token may begin comments in a language with these fixed words: it is one run of symbols, and
+/// neither `...` nor one of the words begins with it. It takes a step for each character of the words at most.
 pub fn is_fit(words: &[Txt], token: &str) -> bool
     ensures { IsTrue result ↔ IsFit words.now token.now }
 {

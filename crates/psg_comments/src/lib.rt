@@ -7,7 +7,8 @@
 //! ```
 //!
 //! A language may have a token that begins comments. A comment begins with this token where a token of the language
-//! would begin, and goes on to the end of its line. So no comment begins inside a quoted text or within a run of symbols.
+//! would begin, and goes on to the end of its line. So no comment begins inside a quoted text or within a run of
+//! symbols.
 #![tactic(auto)]
 
 pub mod blanking;

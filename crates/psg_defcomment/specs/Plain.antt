@@ -36,8 +36,8 @@ abbrev pub joined : List (List ℕ) → List ℕ
 joined [] = []
 joined (line ∷ rest) = line ++ (13 ∷ 10 ∷ joined rest)
 
--- A file of version 3 as one of version 2, line by line: without the lines that name a token of comments, which are empty.
--- Other bytes are as they are.
+-- A file of version 3 as one of version 2, line by line: without the lines that name a token of comments, which are
+-- empty. Other bytes are as they are.
 abbrev pub plain_of : List ℕ → List ℕ
 plain_of bytes = cond (is_third bytes) (joined (codes "psg 2" ∷ map plain_line (behind_head (lines bytes)))) bytes
 

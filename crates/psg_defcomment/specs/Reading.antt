@@ -28,8 +28,8 @@ abbrev pub IsCommentOf : List Name → Option Name → Type 0
 IsCommentOf fixed None = Unit {0}
 IsCommentOf fixed (Some token) = IsFit fixed token
 
--- The file without its lines on comments is read as the definition, and it names one token at most, which fits the words
--- of the language.
+-- The file without its lines on comments is read as the definition, and it names one token at most, which fits the
+-- words of the language.
 pub record IsCommented (bytes : List ℕ) (def : Definition) : Type 0 where
   pub read : IsReadAs (plain_of bytes) def
   pub fit : AreFit (fixed_words def) (named_in bytes)

@@ -13,9 +13,10 @@ use Rattle.psg_comments.specs.Fitting.{IsFit}
 use Rattle.psg_defcomment.specs.Plain.{named_in, plain_of}
 use Rattle.psg_defcomment.specs.declared.lines.Named.{Named}
 use Rattle.psg_defcomment.specs.declared.fault.FileFault.{FileFault}
-use Rattle.psg_defcomment.specs.declared.fault.FileFault.TheVariants.{Definition as DefinitionFault, Repeated, Unfit, Memory}
+use Rattle.psg_defcomment.specs.declared.fault.FileFault.TheVariants.{Definition as DefinitionFault}
+use Rattle.psg_defcomment.specs.declared.fault.FileFault.TheVariants.{Repeated, Unfit, Memory}
 
--- the test of the code looks at the meaning of lines, and so comes after all tests of form
+-- the test of the code looks at the meaning of lines, and so follows all tests of form
 abbrev pub is_of_meaning : DefCode → Bool
 is_of_meaning codes.Repeated = true
 is_of_meaning codes.Unknown = true
@@ -37,9 +38,9 @@ pub record IsLater (line : ℕ) (fault : DefFault) : Type 0 where
   pub meaning : is_of_meaning fault.code ≡ true
   pub place : line < fault.line
 
--- The first fault of the bytes: that of the file without its lines on comments, or a second line that names a token; the
--- one of form is first, and of two of meaning the one on the earlier line. Where there is neither, the token does not fit
--- the words of the language.
+-- The first fault of the bytes: that of the file without its lines on comments, or a second line that names a token;
+-- the one of form is first, and of two of meaning the one on the earlier line. Where there is neither, the token does
+-- not fit the words of the language.
 pub data FileRefusal (bytes : List ℕ) : FileFault → Type 0 where
   of_definition : (fault : DefFault) → Refusal (plain_of bytes) fault
       → ((line : ℕ) → IsSecond (named_in bytes) line → IsLater line fault → ⊥)
@@ -65,7 +66,7 @@ IsFileFault bytes (DefinitionFault fault) = FileRefusal bytes (DefinitionFault f
 IsFileFault bytes (Repeated line) = FileRefusal bytes (Repeated line)
 IsFileFault bytes (Unfit line) = FileRefusal bytes (Unfit line)
 
--- how a fault is printed; nothing is printed of a want of memory
+-- how a fault is printed; nothing is printed when memory runs out
 abbrev pub file_fault_text : FileFault → List ℕ
 file_fault_text (DefinitionFault fault) = fault_text fault
 file_fault_text (Repeated line) = codes "line " ++ (decimal line ++ codes " code 4")

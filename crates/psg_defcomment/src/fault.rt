@@ -47,7 +47,7 @@ impl<T: Drop> From<AllocFailed<T>> for FileFault {
 }
 
 /// Returns the fault as it is printed: `line L code C`, with the numbers in decimal. A second token has the code 4, and
-/// a token that does not fit has the code 14. There is no line for a want of memory. It fails where memory runs out.
+/// a token that does not fit has the code 14. There is no line when memory runs out. It fails where memory runs out.
 pub fn file_fault_text(alloc: Global, fault: &FileFault) -> Result<String, AllocError>
     ensures { IfOk result (λ text. string_bytes text ≡ file_fault_text_of fault.now) }
 {

@@ -28,7 +28,7 @@ fn is_head(line: &[u8]) -> bool
     }
 }
 
-/// Writes the line with a carriage return and a line feed behind it.
+/// Writes the line with a carriage return and a line feed after it.
 fn push_line(bytes: &mut Vec<u8>, line: &[u8]) -> Result<(), AllocError>
     ensures { OnOk result (bytes.new.items ≡ bytes.old.items ++ (line.now ++ (13 ∷ 10 ∷ []))) }
 {

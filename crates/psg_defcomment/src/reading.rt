@@ -101,8 +101,8 @@ fn fitting(alloc: Global, definition: &Definition, named: &Named) -> Result<Txt,
     Ok(token)
 }
 
-/// Returns the token of comments, where the lines name one that fits the words of the definition, and none where no line
-/// names one.
+/// Returns the token of comments, where the lines name one that fits the words of the definition, and none where no
+/// line names one.
 fn token_in(
     alloc: Global,
     definition: &Definition,
@@ -123,11 +123,11 @@ fn token_in(
     Ok(Some(token))
 }
 
-/// Returns the definition that the bytes spell without a fault, with the token of its comments, or their first fault. The
-/// tests are those of the file without its lines on comments, in their order; a second line that names a token is told
-/// by its number among the faults of meaning; whether the token fits the words of the language is tested last. `Memory`
-/// is returned when memory runs out, at any time. It takes the time of reading the definition, and once more the time of
-/// going over the bytes.
+/// Returns the definition that the bytes spell without a fault, with the token of its comments, or their first fault.
+/// The tests are those of the file without its lines on comments, in their order; a second line that names a token is
+/// told by its number among the faults of meaning; whether the token fits the words of the language is tested last.
+/// `Memory` is returned when memory runs out, at any time. It takes the time of reading the definition, and once more
+/// the time of going over the bytes.
 pub fn read_commented(alloc: Global, bytes: &[u8]) -> Result<Commented, FileFault>
     requires { length bytes.now < 2 ^ 32 }
     ensures ok { IfOk result (λ c. IsCommented bytes.now c.definition) }

@@ -20,8 +20,8 @@ abbrev pub NamesAgree : Definition → Type 0
 NamesAgree def = (f : Fragment) (declared : Bool)
     → those declared (names_of def f) ≡ naming.names_below def declared true [] 0 f
 
--- A name that no unfinished list around it may still declare is linked to a declaration exactly where it is declared, so
--- that the others are the names that nothing declares.
+-- A name that no unfinished list around it may still declare is linked to a declaration exactly where it is declared,
+-- so that the others are the names that nothing declares.
 abbrev pub LinksAgree : Definition → Type 0
 LinksAgree def = (f : Fragment) (w : Written) → may_be_declared def f w.space (ways_up w.path) ≡ false
     → is_linked def f w ≡ is_some (declaration def f w)

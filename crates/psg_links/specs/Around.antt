@@ -16,7 +16,7 @@ region_by def f q = record { path = q; declared = declared_of def f q }
 abbrev pub regions_at : Definition → Fragment → Path → List Region
 regions_at def f q = cond (begins_region def f q) (region_by def f q ∷ []) []
 
--- those that begin at the first so many nodes on the way, the outermost first
+-- those that begin at the first nodes, as many as given, on the way, the outermost first
 abbrev pub regions_upto : Definition → Fragment → Path → ℕ → List Region
 regions_upto def f p zero = []
 regions_upto def f p (suc n) = regions_upto def f p n ++ regions_at def f (take n p)

@@ -16,7 +16,8 @@ first_key w (d ∷ ds) = cond (is_same_key d w) (Some d) (first_key w ds)
 
 -- The first declaration of the name's key in the innermost region around it that declares the key. Of a name that
 -- declares this is the first declaration of its key in its own region: itself, where that region declares the key once.
--- There is none where no region around declares the key; that an unfinished list may still declare it is no matter here.
+-- There is none where no region around declares the key; that an unfinished list may still declare it is no matter
+-- here.
 abbrev pub declaration : Definition → Fragment → Written → Option Written
 declaration def f w = first_key w (declared_on def f (ways_up w.path))
 

@@ -33,7 +33,7 @@ module _ (def : Definition) where
   abbrev pub child_names : Path → ℕ → Fragment → List Named
   child_names path child t = names_below (below path child) 0 t
 
-  -- of a part of the node at the path, which has so many names and children before it
+  -- of a part of the node at the path, which has that many names and children before it
   abbrev pub part_names : Option NameItem → Path → ℕ → ℕ → Part → List Named
   part_names item path names children (parts.Sub t) = child_names path children t
   part_names item path names children (parts.Name x) = option_to_list (own_name item path names x)

@@ -72,7 +72,7 @@ IsWithin w new xs ys (Some refusals.NoName) = ⊥
 IsWithin w new xs ys (Some refusals.Outside) = ⊥
 IsWithin w new xs ys (Some refusals.NewName) = ⊥
 
--- the text is the program with the same names but for those together with w, which have the new one
+-- the text is the program with the same names except those together with w, which have the new one
 pub record IsRenamed (def : Definition) (kind : Kind) (text : List ℕ) (w : Link) (new : List ℕ) (links : List Link)
     (f : Fragment) : Type 0 where
   pub program : IsProgram def kind text f
@@ -89,7 +89,8 @@ IsTried def kind text w new links (Some refusals.NoName) = ⊥
 IsTried def kind text w new links (Some refusals.Outside) = ⊥
 IsTried def kind text w new links (Some refusals.NewName) = ⊥
 
-module _ (def : Definition) (kind : Kind) (bytes : List ℕ) (tokens : List Spanned) (nodes : Forest) (links : List Link) where
+module _ (def : Definition) (kind : Kind) (bytes : List ℕ) (tokens : List Spanned) (nodes : Forest)
+    (links : List Link) where
   -- the name at the byte is linked to a declaration
   pub record IsDeclared (byte : ℕ) (l : Link) : Type 0 where
     pub there : link_at tokens nodes byte links ≡ Some l
@@ -112,9 +113,9 @@ module _ (def : Definition) (kind : Kind) (bytes : List ℕ) (tokens : List Span
   IsGiven l new (Err refusals.NoName) = ⊥
   IsGiven l new (Err refusals.Outside) = ⊥
 
-  -- The edits are at all names together with the one at the byte, and no link arises or breaks; or that can't be: there is
-  -- no name, nothing declares it here, the new name is none, the text with it is not the program with the new names, or
-  -- a name would be linked to another declaration, or no longer to one.
+  -- The edits are at all names together with the one at the byte, and no link arises or breaks; or that can't be: there
+  -- is no name, nothing declares it here, the new name is none, the text with it is not the program with the new names,
+  -- or a name would be linked to another declaration, or no longer to one.
   abbrev pub IsAnswer : ℕ → List ℕ → Result (Vec Spot Global) Refusal → Type 0
   IsAnswer byte new (Ok spots) = (l : Link) × IsDeclared byte l × IsGiven l new (Ok spots)
   IsAnswer byte new (Err refusals.NoName) = link_at tokens nodes byte links ≡ None

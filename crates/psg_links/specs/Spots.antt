@@ -17,8 +17,8 @@ use Rattle.psg_links.specs.declared.spot.Spot.{Spot}
 use Rattle.psg_links.specs.declared.linked.Linked.{Linked}
 use Rattle.psg_links.specs.Links.{is_together, links_of}
 
--- The page is a reading of the bytes: their program, with its tokens, the ranges of its nodes and the links of its names.
--- Bytes count after a byte order mark.
+-- The page is a reading of the bytes: their program, with its tokens, the ranges of its nodes and the links of its
+-- names. Bytes count after a byte order mark.
 pub record IsPage (def : Definition) (kind : Kind) (bytes : List ℕ) (p : Page) : Type 0 where
   pub program : IsProgram def kind bytes p.tree
   pub tokens : TextTokens def (unmarked bytes) p.tokens.items

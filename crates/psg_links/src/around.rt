@@ -62,7 +62,7 @@ fn begins(definition: &Definition, path: &Path, node: &Tree) -> bool
     begins_at(definition, path.steps(), node)
 }
 
-/// Returns the region that begins after so many steps of the path, if one does.
+/// Returns the region that begins after that many steps of the path, if one does.
 fn region_of_step(
     alloc: Global,
     definition: &Definition,
@@ -98,7 +98,7 @@ fn push_region(regions: &mut Vec<Region>, region: Option<Region>) -> Result<(), 
     }
 }
 
-/// Adds the regions around the node at the path that begin after so many steps of it, or later.
+/// Adds the regions around the node at the path that begin after that many steps of it, or later.
 fn enter(
     alloc: Global,
     definition: &Definition,

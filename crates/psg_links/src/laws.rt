@@ -9,8 +9,8 @@ pub fn names_agree(_definition: &Definition)
     ensures { NamesAgree _definition.now }
 {}
 
-/// States that a name that no unfinished list around it may still declare is linked to a declaration exactly where it is
-/// declared. So the names that are linked to the outside are those that nothing declares. The call has no cost.
+/// States that a name that no unfinished list around it may still declare is linked to a declaration exactly where it
+/// is declared. So the names that are linked to the outside are those that nothing declares. The call has no cost.
 pub fn links_agree(_definition: &Definition)
     ensures { LinksAgree _definition.now }
 {}

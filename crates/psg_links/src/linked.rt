@@ -1,5 +1,6 @@
 //! What is said of the name at a byte.
-ghost use Rattle.std.specs.Prelude.{◌≡◌, ◌++◌, [], IfOk, MatchOption, None, OnOk, Some, cond, false, option_to_list, true};
+ghost use Rattle.std.specs.Prelude.{◌≡◌, ◌++◌, [], IfOk, MatchOption, None, OnOk};
+ghost use Rattle.std.specs.Prelude.{Some, cond, false, option_to_list, true};
 ghost use Rattle.psg_ranges.specs.Forests.{Forest, ranges_in};
 ghost use Rattle.psg_links.specs.Spots as spots;
 ghost use Rattle.psg_links.specs.Spots.{IsCovering, IsLinkedAt, declared_spot, link_spot};
@@ -53,13 +54,15 @@ fn spot_of_declared(sheet: Sheet<'_>, declaration: &Option<Written>) -> Option<S
 
 /// Returns the spot, if it covers the byte.
 fn covering(byte: usize, spot: Option<Spot>) -> Option<Spot>
-    ensures { MatchOption result (spots.covers byte spot ≡ false) (λ s. (spots.covers byte spot ≡ true) × (spot ≡ Some s)) }
+    ensures { MatchOption result (spots.covers byte spot ≡ false)
+        (λ s. (spots.covers byte spot ≡ true) × (spot ≡ Some s)) }
 {
     let so = covers(byte, &spot);
     if so { spot } else { None }
 }
 
-/// Returns the first link of a name that covers the byte, and where the name is, if there is one. Two names do not touch.
+/// Returns the first link of a name that covers the byte, and where the name is, if there is one. Two names do not
+/// touch.
 fn first_covering<'a>(sheet: Sheet<'_>, links: &'a [Link], byte: usize) -> Option<(&'a Link, Spot)>
     ensures { (f : Forest) → ranges_in f ≡ sheet.entry.ranges.now.nodes
         → MatchOption result (spots.link_at sheet.entry.tokens.now f byte links.now ≡ None)
@@ -112,8 +115,8 @@ fn spots_of(
 }
 
 impl Page {
-    /// Returns the link of the name that covers the byte, at its ends too, and where the name is, if there is one. For each
-    /// name it walks along its path, and over the nodes beside those on it.
+    /// Returns the link of the name that covers the byte, at its ends too, and where the name is, if there is one. For
+    /// each name it walks along its path, and over the nodes beside those on it.
     pub(crate) fn covering(&self, byte: usize) -> Option<(&Link, Spot)>
         ensures { (f : Forest) → ranges_in f ≡ self.now.ranges.nodes
             → MatchOption result (spots.link_at self.now.tokens.items f byte self.now.links.items ≡ None)
@@ -135,9 +138,9 @@ impl Page {
         Ok(found)
     }
 
-    /// Returns where the name at the byte is, where its declaration is, and where the names are that are together with it.
-    /// There is nothing where no name covers the byte. It fails where memory runs out. For each name it walks along its
-    /// path, and over the nodes beside those on it.
+    /// Returns where the name at the byte is, where its declaration is, and where the names are that are together with
+    /// it. There is nothing where no name covers the byte. It fails where memory runs out. For each name it walks along
+    /// its path, and over the nodes beside those on it.
     pub fn link_at(&self, alloc: Global, byte: usize) -> Result<Option<Linked>, AllocError>
         ensures { IfOk result (λ found. (f : Forest) → ranges_in f ≡ self.now.ranges.nodes
             → IsLinkedAt self.now.tokens.items f self.now.links.items byte found) }

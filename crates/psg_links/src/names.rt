@@ -61,7 +61,7 @@ fn gather_child(
     Ok(())
 }
 
-/// Adds the names of the part of the node at the path, which has so many names and children before it.
+/// Adds the names of the part of the node at the path, which has that many names and children before it.
 #[cycle(names)]
 fn gather_part(
     alloc: Global,

@@ -74,11 +74,11 @@ fn page_of(
 }
 
 impl Page {
-    /// Reads the bytes as a program of the kind, and links its names. There is no page where the bytes are no program. It
-    /// fails where memory runs out.
+    /// Reads the bytes as a program of the kind, and links its names. There is no page where the bytes are no program.
+    /// It fails where memory runs out.
     ///
-    /// It costs a reading of the text, a walk over the tree for its names and one over its regions; and for each name the
-    /// declarations of the regions around it, from the innermost region on, until the name's key is met.
+    /// It costs a reading of the text, a walk over the tree for its names and one over its regions; and for each name
+    /// the declarations of the regions around it, from the innermost region on, until the name's key is met.
     pub fn of<L: Ledger>(
         alloc: Global,
         language: &Language,

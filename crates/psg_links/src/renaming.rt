@@ -261,7 +261,8 @@ fn given<L: Ledger>(
 ) -> Result<Result<Vec<Spot>, Refusal>, AllocError>
     requires kind { HasKind language.now kind }
     ensures { IfOk result (λ answer. (f : Forest) → ranges_in f ≡ page.now.ranges.nodes
-        → IsGiven language.now kind (unmarked_of bytes.now) page.now.tokens.items f page.now.links.items link.now new.now
+        → IsGiven language.now kind
+        (unmarked_of bytes.now) page.now.tokens.items f page.now.links.items link.now new.now
         answer) }
 {
     let definition = language.definition();
@@ -293,12 +294,13 @@ fn is_outside(link: &Link) -> bool
     }
 }
 
-/// Returns where the names are that are together with the name at the byte, so that each of them is to be replaced by the
-/// new name. The new name is a word of at most 255 bytes that is no fixed word, the text with it is read as the program
-/// with the new names, and each name is linked there to the place to which it was linked before. Where that can't be, the
-/// refusal says why; a name that is linked to the outside gets no new name.
+/// Returns where the names are that are together with the name at the byte, so that each of them is to be replaced by
+/// the new name. The new name is a word of at most 255 bytes that is no fixed word, the text with it is read as the
+/// program with the new names, and each name is linked there to the place to which it was linked before. Where that
+/// can't be, the refusal says why; a name that is linked to the outside gets no new name.
 ///
-/// The page is one of the bytes. It fails where memory runs out. It costs a reading of the text with the new name and its links, as `Page::of` does.
+/// The page is one of the bytes. It fails where memory runs out. It costs a reading of the text with the new name and
+/// its links, as `Page::of` does.
 pub fn rename<L: Ledger>(
     alloc: Global,
     language: &Language,

@@ -8,8 +8,8 @@ use psg_lexis::Spanned;
 use psg_ranges::{Range, Ranges};
 use psg_uses::names::Written;
 
-/// The bytes of a text that a name takes, from `start` up to `end`, and whether it declares. Bytes count after a byte order
-/// mark.
+/// The bytes of a text that a name takes, from `start` up to `end`, and whether it declares. Bytes count after a byte
+/// order mark.
 #[derive(Drop)]
 pub struct Spot {
     /// The byte offset of its first byte.

@@ -37,7 +37,7 @@ use Rattle.psg_server.specs.Edits.{IsFormatting, IsFormattingOf, as_it_is, no_pr
 use Rattle.psg_server.specs.Fields.{Renamed, changed_in, encoding_in, wants_declaring}
 use Rattle.psg_server.specs.Hovering.{IsTold, IsToldIn}
 use Rattle.psg_server.specs.Linking.{AreShown, IsDeclaration, IsList, IsNamedOf, IsPrepared, IsRepliedOf, IsReply, IsReplyOf, IsShown, Way}
-use Rattle.psg_server.specs.Linking.{as_edit, as_light, as_place, none_left, passed as not_wanted, shown, shown_data, words_of}
+use Rattle.psg_server.specs.Linking.{as_edit, as_light, as_place, left_out, none_left, shown, shown_data, words_of}
 use Rattle.psg_server.specs.Methods.{is_known}
 use Rattle.psg_server.specs.Ranges.{IsRange}
 use Rattle.psg_lsp.specs.Talking.{IsPlainOut}
@@ -212,9 +212,9 @@ module _ (encoding : Encoding) (text : List ℕ) where
   all_plain : (way : Way) (all : Bool) (ss : List Spot) (ds : List Data) → AreShown encoding text way all ss ds
       → items_have_float (items_of ds) ≡ false
   all_plain way all _ _ none_left = refl
-  all_plain way all _ _ (not_wanted {ss} {ds} s e rest) = all_plain way all ss ds rest
-  all_plain way all _ _ (shown {ss} {ds} s d e is rest) =
-      ap₂ (λ a b. a || b) (shown_plain way s d is) (all_plain way all ss ds rest)
+  all_plain way all _ _ (left_out s e rest) = all_plain way all _ _ rest
+  all_plain way all _ _ (shown s d e is rest) =
+      ap₂ (λ a b. a || b) (shown_plain way s d is) (all_plain way all _ _ rest)
 
   list_plain : (way : Way) (all : Bool) (ss : List Spot) (d : Data) → IsList encoding text way all ss d → has_float d ≡ false
   list_plain way all ss d is = ap has_float is.is ∙ all_plain way all ss is.values is.are
@@ -248,7 +248,7 @@ replied_plain def kind encoding address (Some text) ask all at d so =
 
 named_plain : (def : Definition) (kind : Kind) (encoding : Encoding) (address : List ℕ) (text : Option (List ℕ)) (r : Renamed)
     (d : Data) → IsNamedOf def kind encoding address text r d → has_float d ≡ false
-named_plain def kind encoding address None r d wrong = absurd wrong
+named_plain def kind encoding address None r d never = absurd never
 named_plain def kind encoding address (Some text) r d so =
     ap has_float so.is
     ∙ ap (λ a. (a || false) || false) (all_plain encoding text (as_edit r.name) true so.spots.items so.edits so.are)

@@ -59,13 +59,13 @@ rows_from view m byte [] = []
 rows_from view m byte (line ∷ lines) =
     plain_row (shown view [] (marked_from m byte (chars line))) ∷ rows_from view m (byte + length line + 1) lines
 
--- so many rows, with empty ones at the end
+-- that many rows, with empty ones at the end
 abbrev pub filled : ℕ → List Row → List Row
 filled zero rows = []
 filled (suc n) [] = plain_row [] ∷ filled n []
 filled (suc n) (row ∷ rows) = row ∷ filled n rows
 
--- so many rows of a text, from the top line on
+-- that many rows of a text, from the top line on
 abbrev pub program_rows : View → ℕ → List ℕ → Marks → List Row
 program_rows view rows text m =
     filled rows (drop view.top (rows_from view m 0 (slice_split (λ b. b == 10) text)))
@@ -80,7 +80,7 @@ ShowsWindow =
     (view : View) (rows : ℕ) (text : List ℕ) (m : Marks)
     → map row_text (program_rows view rows text m) ≡ window_of text (record view { rows = rows })
 
--- a line of a page, and so many of them from the top one on
+-- a line of a page, and that many of them from the top one on
 abbrev pub page_row : ℕ → List (List ℕ) → ℕ → Row
 page_row cols lines place =
     plain_row (shown (columns_from 0 cols) [] (in_style plain (chars (slice_index_or lines place []))))

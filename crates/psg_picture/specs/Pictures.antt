@@ -29,7 +29,7 @@ words style text = in_style style (chars text)
 abbrev pub before_mark : ℕ → List ℕ → ℕ
 before_mark cols mark = cols - min (column_within (chars mark) + 2) (2 ^ 32 - 1)
 
--- a title as far as so many columns show it, and spaces up to one column more
+-- a title as far as that many columns show it, and spaces up to one column more
 abbrev pub title_part : Style → ℕ → List ℕ → List Styled
 title_part style most title =
     shown (columns_from 0 (most - 1)) [] (words style title)

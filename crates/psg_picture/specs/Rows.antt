@@ -20,7 +20,7 @@ abbrev pub in_style : Style → List ℕ → List Styled
 in_style style [] = []
 in_style style (c ∷ cs) = styled c style ∷ in_style style cs
 
--- the columns from `left` on, so many of them
+-- the columns from `left` on, that many of them
 abbrev pub columns_from : ℕ → ℕ → View
 columns_from left cols = record { top = 0; left = left; rows = 0; cols = cols }
 
@@ -66,7 +66,7 @@ abbrev pub rows_picture : ℕ → ℕ → List Row → Option ℕ → Picture
 rows_picture rows cols list cursor =
     record { rows = rows; cols = cols; slots = flat_map (row_slots cols) list; cursor = cursor }
 
--- ---- how a sketch comes to them
+-- ---- how a sketch makes them
 
 abbrev pub written : List Styled → Sketched → Sketched
 written [] s = s

@@ -76,7 +76,7 @@ fn before_mark(cols: u32, mark: &str) -> u32
     cols.saturating_sub(columns_of_text(mark).saturating_add(2))
 }
 
-/// Returns a title as far as so many columns show it, and spaces up to one column more.
+/// Returns a title as far as that many columns show it, and spaces up to one column more.
 fn title_part(
     alloc: Global,
     most: u32,

@@ -8,7 +8,7 @@ use crate::windowed::{columns_from, shown_text};
 use psg_canvas::Sketch;
 use std::alloc::{AllocError, Global};
 
-/// Writes the lines of a page from the top one on, and empty rows after the last one, so many rows in all.
+/// Writes the lines of a page from the top one on, and empty rows after the last one, that many rows in all.
 pub(crate) fn write_page(
     alloc: Global,
     sketch: &mut Sketch,

@@ -23,8 +23,9 @@ const LEAST_ROWS: u32 = 6;
 const LEAST_COLS: u32 = 20;
 
 /// Returns the picture of a program. `rows` and `cols` of the view are those of the screen. `top` and `left` are the
-/// first line and column of the text that are shown, as `scrolled` returns them. A line of text is shown in the last row,
-/// with the cursor, where one is open. In a window of fewer than 6 rows or 20 columns one line says that it is too small.
+/// first line and column of the text that are shown, as `scrolled` returns them. A line of text is shown in the last
+/// row, with the cursor, where one is open. In a window of fewer than 6 rows or 20 columns one line says that it is too
+/// small.
 ///
 /// Fails only when out of memory. Reads the text up to the last line that is shown.
 pub fn program_picture(

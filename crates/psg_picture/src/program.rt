@@ -10,7 +10,7 @@ use psg_canvas::Sketch;
 use psg_screen::View;
 use std::alloc::{AllocError, Global};
 
-/// Writes the lines of the text that the window has, one a row, and empty rows after the last line, so many rows in
+/// Writes the lines of the text that the window has, one a row, and empty rows after the last line, that many rows in
 /// all.
 pub(crate) fn write_program(
     alloc: Global,

@@ -23,7 +23,7 @@ pub(crate) fn push_text(row: &mut Vec<Styled>, text: &str, style: Style) -> Resu
     Ok(())
 }
 
-/// Puts so many of one character at the end.
+/// Puts that many of one character at the end.
 pub(crate) fn push_same(
     row: &mut Vec<Styled>,
     count: u32,
@@ -86,7 +86,7 @@ fn write_chars(alloc: Global, sketch: &mut Sketch, chars: Vec<Styled>) -> Result
     Ok(())
 }
 
-/// Writes so many empty rows.
+/// Writes that many empty rows.
 pub(crate) fn write_empty(
     alloc: Global,
     sketch: &mut Sketch,

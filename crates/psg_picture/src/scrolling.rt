@@ -12,7 +12,7 @@ use psg_screen::View;
 const OTHER_ROWS: u32 = 5;
 
 /// Returns the view with the first line and column at which the chosen place is shown: its first line is in the middle
-/// two thirds of the rows, but for the text's first lines, and as much of that line is shown as fits. The first line
+/// two thirds of the rows, except the text's first lines, and as much of that line is shown as fits. The first line
 /// and column of before stay where the place is shown so. `rows` and `cols` of the view are those of the screen.
 ///
 /// Takes no memory. Reads the text once.

@@ -12,7 +12,7 @@ use unicode_width::UnicodeWidthChar;
 /// The most columns that are counted.
 const MOST: u64 = 0xffff_ffff;
 
-/// Returns the columns from `left` on, so many of them.
+/// Returns the columns from `left` on, that many of them.
 pub(crate) fn columns_from(left: u32, cols: u32) -> View
     ensures { result ≡ columns_from left cols }
 {
@@ -130,7 +130,7 @@ fn columns_inside(view: View, column: u64, width: u64) -> u64
     (column + width).min(end).saturating_sub(column.max(left))
 }
 
-/// Puts so many spaces at the end.
+/// Puts that many spaces at the end.
 fn push_spaces(row: &mut Vec<Styled>, count: u64, style: Style) -> Result<(), AllocError>
     ensures { OnOk result (row.new.items ≡ row.old.items ++ in_style style (replicate count 32)) }
 {

@@ -1,5 +1,6 @@
--- What is told of the node at a byte of a text.
-use Rattle.std.specs.Prelude.{ℕ, ◌≡◌, ◌+◌, ◌-◌, List, [], ◌∷◌, ◌++◌, map, length, string_bytes, codes, Option, Some, None}
+-- What is said of the node at a byte of a text.
+use Rattle.std.specs.Prelude.{ℕ, ◌≡◌, ◌+◌, ◌-◌, List, [], ◌∷◌, ◌++◌, map, length}
+use Rattle.std.specs.Prelude.{string_bytes, codes, Option, Some, None}
 use Rattle.std.specs.Prelude.{slice_get}
 use Rattle.psg_terms.specs.Names.{Name}
 use Rattle.psg_grammar.specs.declared.types.Definition.{Definition}
@@ -56,18 +57,18 @@ mark_size text = length text - length (unmarked text)
 abbrev pub own_byte : List ℕ → ℕ → ℕ
 own_byte text byte = byte - mark_size text
 
--- ---- what is told
+-- ---- what is said
 
 abbrev pub spot_at : Path → Spot
 spot_at path = record { target = path; place = None }
 
--- the lines that are told; none where no program is asked, and where it is refused
+-- the lines that are given; none where no program is asked, and where it is refused
 abbrev pub lines_of : Option Read → List (List ℕ)
 lines_of None = []
 lines_of (Some read) = or_none read
 
 -- The node at the path: where it begins and ends, what it is, and the plain editor's reply to the question for its
--- relation, in a wrong program in the repaired one. So many bytes are before what is judged.
+-- relation, in a wrong program in the repaired one. That many bytes are before what is judged.
 pub record IsHoverOf (def : Definition) (kind : Kind) (j : Judged) (nodes : Forest) (mark : ℕ) (path : Path) (h : Hover)
     : Type 0 where
   pub node : Fragment
@@ -80,7 +81,7 @@ pub record IsHoverOf (def : Definition) (kind : Kind) (j : Judged) (nodes : Fore
   pub is_told : IsToldOf def kind (tree_in j.note) (spot_at path) relation_of lines_told told
   pub lines : map string_bytes h.lines.items ≡ head_of def node ∷ lines_of told
 
--- What is told at a byte of a text: of the node there. Nothing is where nothing is known of the text, and where no node
+-- What is said at a byte of a text: of the node there. Nothing is where nothing is known of the text, and where no node
 -- covers the byte.
 pub data IsHovered (def : Definition) (kind : Kind) (text : List ℕ) (byte : ℕ) : Option Hover → Type 0 where
   unknown : IsJudgement def kind text None → IsHovered def kind text byte None

@@ -28,8 +28,8 @@ abbrev pub IsLimited : Definition → Fragment → Type 0
 IsLimited def f = (fault : NoteFault) × IsNoteFault def f fault × IsOfTree fault
 
 module _ (def : Definition) (kind : Kind) where
-  -- The text, which has no byte order mark, is a program. What is kept is its tokens, where its nodes are among them, its
-  -- tree with what is known of it, whether it is wrong, and its wrong places.
+  -- The text, which has no byte order mark, is a program. What is kept is its tokens, where its nodes are among them,
+  -- its tree with what is known of it, whether it is wrong, and its wrong places.
   pub record IsJudged (own : List ℕ) (j : Judged) : Type 0 where
     pub is_text : IsUtf8 own
     pub program : IsProgramText def kind own (tree_in j.note)
@@ -48,7 +48,7 @@ module _ (def : Definition) (kind : Kind) where
   abbrev pub IsTooMuch : List ℕ → Type 0
   IsTooMuch own = (f : Fragment) × IsProgramText def kind own f × IsLimited def f
 
-  -- the bytes are no program, as is told at a place of them
+  -- the bytes are no program, as is said at a place of them
   abbrev pub IsNoProgram : List ℕ → Type 0
   IsNoProgram bytes = (line : ℕ) × (column : ℕ) × (message : List ℕ) × IsFaulty def kind bytes line column message
 

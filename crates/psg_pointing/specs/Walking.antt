@@ -15,7 +15,7 @@ abbrev pub behind_first : List Range → List Range
 behind_first [] = []
 behind_first (r ∷ rs) = rs
 
--- among the first so many nodes this is the last one that covers the byte
+-- among that many of the first nodes this is the last one that covers the byte
 pub data IsSoFar (tokens : List Spanned) (byte : ℕ) (f : Forest) (count : ℕ) : Option Child → Type 0 where
   none_yet : ((n : ℕ) → n < count → is_on tokens byte (from_nth f n) ≡ false) → IsSoFar tokens byte f count None
   last_yet : (child : Child) → is_on tokens byte (from_nth f child.number) ≡ true

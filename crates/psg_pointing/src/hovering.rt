@@ -1,4 +1,4 @@
-//! What is told of the node at a byte of a text.
+//! What is said of the node at a byte of a text.
 ghost use Rattle.std.specs.Prelude.{◌≡◌, ◌≤◌, ◌+◌, ◌∷◌, [], IfOk, IsUtf8, Some, length, map, option_copied};
 ghost use Rattle.std.specs.Prelude.{option_map, string_bytes};
 ghost use Rattle.psg_asking.specs.Asked.{IsKnown, IsToldOf, relation_of};
@@ -32,7 +32,7 @@ use psg_world::SureFiles;
 use std::alloc::{AllocError, Global};
 use std::sync::ledger::Ledger;
 
-/// What is told of a node of a text.
+/// What is said of a node of a text.
 #[derive(Drop)]
 pub struct Hover {
     /// The byte where the node begins.
@@ -58,7 +58,7 @@ pub fn own_byte(text: &[u8], byte: usize) -> usize
     byte.saturating_sub(mark)
 }
 
-/// Returns the line and those that are told after it, if it was not refused.
+/// Returns the line and those after it, if it was not refused.
 fn lines_after(
     alloc: Global,
     head: String,
@@ -79,7 +79,7 @@ fn lines_after(
     }
 }
 
-/// Returns the line and those that are told after it, if there are any.
+/// Returns the line and those after it, if there are any.
 fn lines_with(
     alloc: Global,
     head: String,
@@ -119,7 +119,8 @@ fn relation_read<L: Ledger>(
     requires { IsKnown known.program.language.now known.program.kind known.program.note.now known.wrong
         (option_copied known.repair) }
     ensures { IfOk result (λ read. IsToldOf known.entry.program.language.now known.entry.program.kind
-        (tree_in known.entry.program.note.now) (told.spot_at path.now) relation_of lines_told (option_map read_of read)) }
+        (tree_in known.entry.program.note.now) (told.spot_at path.now) relation_of lines_told
+        (option_map read_of read)) }
 {
     let target = copied(alloc, path)?;
     let spot = Spot {
@@ -164,7 +165,7 @@ fn range_there<'a>(ranges: &'a Ranges, path: &Path) -> &'a Range
     }
 }
 
-/// Tells of the node at the path.
+/// Says what the node at the path is.
 fn hover_of<L: Ledger>(
     alloc: Global,
     language: &Language,
@@ -198,7 +199,7 @@ fn hover_of<L: Ledger>(
     Ok(Hover { start, end, lines })
 }
 
-/// Tells of the node at the byte of the text of a program.
+/// Says what the node at the byte of the text of a program is.
 fn hovered<L: Ledger>(
     alloc: Global,
     language: &Language,
@@ -224,11 +225,11 @@ fn hovered<L: Ledger>(
     }
 }
 
-/// Tells of the node at the byte of a text that is to be a program of the kind: the smallest node that covers the byte,
-/// and of two that touch there the later one. The lines begin with what the node is, and go on with those of the plain
-/// editor's `relation` for it; of a wrong program with those of the repaired one, and none where that has no such node.
-/// `None` where the text is no program, where the program passes a limit of the evaluator, and where no node covers the
-/// byte. Bytes are those of the whole text, with a byte order mark.
+/// Returns what is known of the node at the byte of a text that is to be a program of the kind: the smallest node that
+/// covers the byte, and of two that touch there the later one. The lines begin with what the node is, followed by those
+/// of the plain editor's `relation` for it; of a wrong program with those of the repaired one, and none where that has
+/// no such node. `None` where the text is no program, where the program passes a limit of the evaluator, and where no
+/// node covers the byte. Bytes are those of the whole text, with a byte order mark.
 ///
 /// `steps` counts the tokens and the evaluations. It fails where memory runs out. It takes a reading of the text and an
 /// evaluation of each node, of a wrong program the search for its blamed places, and the question.

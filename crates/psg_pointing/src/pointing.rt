@@ -1,5 +1,6 @@
 //! The node at a byte of a text.
-ghost use Rattle.std.specs.Prelude.{◌≡◌, ◌≤◌, ◌<◌, ◌-◌, ◌⊎◌, ℕ, IfNone, IfOk, IfSome, Some, drop, false, length, slice_get, suc, take, true};
+ghost use Rattle.std.specs.Prelude.{◌≡◌, ◌≤◌, ◌<◌, ◌-◌, ◌⊎◌, ℕ, IfNone, IfOk, IfSome, Some};
+ghost use Rattle.std.specs.Prelude.{drop, false, length, slice_get, suc, take, true};
 ghost use Rattle.psg_ranges.specs.Forests.{Forest, below_first, from_nth, ranges_in};
 ghost use Rattle.psg_ranges.specs.Owns.{end_before as end_before_of};
 ghost use Rattle.psg_pointing.specs.Pointing as points;
@@ -23,7 +24,7 @@ fn start_of(tokens: &[Spanned], number: usize) -> usize
     }
 }
 
-/// Returns the byte after the last one of so many tokens, or 0 where there are none.
+/// Returns the byte after the last one of that many tokens, or 0 where there are none.
 fn end_before(tokens: &[Spanned], number: usize) -> usize
     ensures { result ≡ end_before_of tokens.now number }
 {
@@ -87,7 +88,7 @@ fn after(ranges: &[Range], count: usize) -> &[Range]
     }
 }
 
-/// Returns so many of the first ranges, all where there are fewer.
+/// Returns that many of the first ranges, all if there are fewer.
 fn front(ranges: &[Range], count: usize) -> &[Range]
     ensures { result.now ≡ take count ranges.now }
 {
@@ -125,7 +126,7 @@ fn one_less(number: usize) -> usize
     number.saturating_sub(1)
 }
 
-/// Returns the ranges of the nodes beside the first one, which come after it.
+/// Returns the ranges of the nodes beside the first one, which follow it.
 fn beside(ranges: &[Range]) -> &[Range]
     ensures shorter { length result.now ≤ length ranges.now - 1 }
     ensures nodes { (f : Forest) → ranges_in f ≡ ranges.now → ranges_in (from_nth f 1) ≡ result.now }

@@ -43,8 +43,8 @@ fn hole_head(alloc: Global, definition: &Definition, phylum: u32) -> Result<Stri
     Ok(text)
 }
 
-/// Returns what the node is: a placeholder as it is written, the name of a list, or an operator with its phylum in front
-/// of it.
+/// Returns what the node is: a placeholder as it is written, the name of a list, or an operator with its phylum in
+/// front of it.
 pub(crate) fn head_of(
     alloc: Global,
     definition: &Definition,

@@ -33,7 +33,7 @@ use Rattle.psg_server.specs.declared.server.Server.{Server}
 use Rattle.psg_server.specs.Answering.{Place, Serves, asks, names, names_not, naming_out, open_in, place_in, sent}
 use Rattle.psg_server.specs.Fields.{Renamed, naming_in, wants_declaring}
 use Rattle.psg_server.specs.Linking.{IsFound, IsNamed, IsThere, IsUnnamed, as_edit, in_program, refuses, workspace_data}
-use Rattle.psg_server.specs.Linking.{AreShown, IsNamedOf, IsRepliedOf, IsShown, IsUnnamedOf, Way, is_wanted, none_left, passed, shown}
+use Rattle.psg_server.specs.Linking.{AreShown, IsNamedOf, IsRepliedOf, IsShown, IsUnnamedOf, Way, is_wanted, left_out, none_left, shown}
 use Rattle.psg_server.specs.Methods.{call_of}
 
 pub asked_row : (def : Definition) (kind : Kind) (old : Server) (id : Data) (method : List ℕ) (given : Given) (p : Place)
@@ -85,7 +85,7 @@ module _ (encoding : Encoding) (text : List ℕ) (way : Way) (all : Bool) where
   -- a name that is not wanted adds nothing, and another one its value
   pub adds_none : (s : Spot) → is_wanted all s ≡ false → (ss : List Spot) (ds : List Data)
       → AreShown encoding text way all ss ds → AreShown encoding text way all (s ∷ ss) ([] ++ ds)
-  adds_none s e = λ ss ds h. passed s e h
+  adds_none s e = λ ss ds h. left_out s e h
 
   pub adds_one : (s : Spot) (d : Data) → is_wanted all s ≡ true → IsShown encoding text way s d → (ss : List Spot) (ds : List Data)
       → AreShown encoding text way all ss ds → AreShown encoding text way all (s ∷ ss) (d ∷ [] ++ ds)
@@ -104,6 +104,7 @@ module _ (def : Definition) (kind : Kind) (encoding : Encoding) (text : List ℕ
   forest = nodes_of def p.tree kind 0 page.nesting (tokens_of p.tokens.items) page.yields
 
   nodes_are : ranges_in forest ≡ p.ranges.nodes
+  unfolding forest
   nodes_are = sym page.nodes
 
   pub found_in : (at : Position) (a : Option Linked) → IsThere encoding text at byte

@@ -78,7 +78,7 @@ module _ (encoding : Encoding) (text : List ℕ) where
   -- the names that are wanted, in order
   pub data AreShown (way : Way) (all : Bool) : List Spot → List Data → Type 0 where
     none_left : AreShown way all [] []
-    passed : {ss : List Spot} {ds : List Data} (s : Spot) → is_wanted all s ≡ false → AreShown way all ss ds
+    left_out : {ss : List Spot} {ds : List Data} (s : Spot) → is_wanted all s ≡ false → AreShown way all ss ds
         → AreShown way all (s ∷ ss) ds
     shown : {ss : List Spot} {ds : List Data} (s : Spot) (d : Data) → is_wanted all s ≡ true → IsShown way s d
         → AreShown way all ss ds → AreShown way all (s ∷ ss) (d ∷ ds)

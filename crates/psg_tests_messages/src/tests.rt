@@ -315,31 +315,39 @@ fn is_text(alloc: Global, value: &Value, expected: &str) -> Result<bool, AllocEr
     Ok(value.to_string(alloc)?.as_str() == expected)
 }
 
-/// Says whether the values that are sent are right.
-fn all_sent(alloc: Global) -> Result<bool, AllocError> {
+fn is_null_answered(alloc: Global) -> Result<bool, AllocError> {
+    let sent = answer(alloc, &Value::from(3u64), Value::Null)?;
+    let text = "{\"id\":3,\"jsonrpc\":\"2.0\",\"result\":null}";
+    is_text(alloc, &sent, text)
+}
+
+fn is_method_refused(alloc: Global) -> Result<bool, AllocError> {
     let id = Value::from(3u64);
-    let one = answer(alloc, &id, Value::Null)?;
-    let two = refusal(alloc, Some(&id), Fault::UnknownMethod, "no such method")?;
-    let three = refusal(alloc, None, Fault::NoJson, "")?;
-    let four = note(alloc, "m", Value::Bool(true))?;
+    let sent = refusal(alloc, Some(&id), Fault::UnknownMethod, "no such method")?;
+    let text =
+        "{\"error\":{\"code\":-32601,\"message\":\"no such method\"},\"id\":3,\"jsonrpc\":\"2.0\"}";
+    is_text(alloc, &sent, text)
+}
+
+fn is_text_refused(alloc: Global) -> Result<bool, AllocError> {
+    let sent = refusal(alloc, None, Fault::NoJson, "")?;
+    let text = "{\"error\":{\"code\":-32700,\"message\":\"\"},\"id\":null,\"jsonrpc\":\"2.0\"}";
+    is_text(alloc, &sent, text)
+}
+
+fn is_noted(alloc: Global) -> Result<bool, AllocError> {
+    let sent = note(alloc, "m", Value::Bool(true))?;
+    let text = "{\"jsonrpc\":\"2.0\",\"method\":\"m\",\"params\":true}";
+    is_text(alloc, &sent, text)
+}
+
+/// Says whether each kind of message is sent as it is to be.
+fn all_sent(alloc: Global) -> Result<bool, AllocError> {
     Ok(
-        is_text(
-            alloc,
-            &one,
-            "{\"id\":3,\"jsonrpc\":\"2.0\",\"result\":null}",
-        )? && is_text(
-            alloc,
-            &two,
-            "{\"error\":{\"code\":-32601,\"message\":\"no such method\"},\"id\":3,\"jsonrpc\":\"2.0\"}",
-        )? && is_text(
-            alloc,
-            &three,
-            "{\"error\":{\"code\":-32700,\"message\":\"\"},\"id\":null,\"jsonrpc\":\"2.0\"}",
-        )? && is_text(
-            alloc,
-            &four,
-            "{\"jsonrpc\":\"2.0\",\"method\":\"m\",\"params\":true}",
-        )?,
+        is_null_answered(alloc)?
+            && is_method_refused(alloc)?
+            && is_text_refused(alloc)?
+            && is_noted(alloc)?,
     )
 }
 

@@ -1,4 +1,4 @@
-//! Where nodes are in texts: worked rows. It has tests alone.
+//! Where nodes are in texts: rows that were worked out by hand. It has tests alone.
 #![tactic(auto)]
 
 #[cfg(test)]
