@@ -1,7 +1,6 @@
 -- The word around a byte, place by place.
-use Rattle.std.proofs.Common.{◌≡◌, ◌<◌, ◌≤◌, ◌⊎◌, inl, inr, Bool, true, false, ℕ, zero, suc, List, length, Option, Some, None, slice_get, refl, sym, ap, subst, ◌∙◌, arith}
-use Rattle.std.proofs.lemmas.Bool.{cases_lt, eqb-true, false≢true, true≢false}
-use Rattle.psg_completing.specs.declared.around.Word.{Word}
+use Rattle.std.proofs.Common.{◌≡◌, ◌<◌, ◌≤◌, inl, inr, Bool, true, false, ℕ, suc, List, Option, Some, None, slice_get, refl, ap, subst, ◌∙◌, arith}
+use Rattle.std.proofs.lemmas.Bool.{cases_lt, eqb-true}
 use Rattle.psg_completing.specs.Around.{IsRun, IsWordAround, marked, marked_here, unmarked, is_mark_at, is_mark_before, is_mark_byte, is_word, is_word_at, is_word_before, is_word_byte}
 
 -- one more place before the words
@@ -10,8 +9,8 @@ pub words_before : (text : List ℕ) (last from place : ℕ) → from ≡ suc la
     → (k : ℕ) → last ≤ k → k < place → is_word_at text k ≡ true
 words_before text last from place e is words k le lt =
     elim (cases_lt last k) [
-    inl after ↦ words k (omega (arith, e, after)) lt
-  | inr here ↦ subst (λ n. is_word_at text n ≡ true) (let same : last ≡ k = omega (arith, le, here) in same) is
+      | inl after ↦ words k (omega (arith, e, after)) lt
+      | inr here ↦ subst (λ n. is_word_at text n ≡ true) (let same : last ≡ k = omega (arith, le, here) in same) is
     ]
 
 -- one more place after them
@@ -20,8 +19,8 @@ pub words_behind : (text : List ℕ) (place to next : ℕ) → next ≡ suc to �
     → (k : ℕ) → place ≤ k → k < next → is_word_at text k ≡ true
 words_behind text place to next e is words k le lt =
     elim (cases_lt k to) [
-    inl before ↦ words k le before
-  | inr here ↦ subst (λ n. is_word_at text n ≡ true) (let same : to ≡ k = omega (arith, e, lt, here) in same) is
+      | inl before ↦ words k le before
+      | inr here ↦ subst (λ n. is_word_at text n ≡ true) (let same : to ≡ k = omega (arith, e, lt, here) in same) is
     ]
 
 -- the words up to a place, and those from it on
@@ -30,8 +29,8 @@ pub words_both : (text : List ℕ) (from byte to : ℕ) → ((k : ℕ) → from 
     → (k : ℕ) → from ≤ k → k < to → is_word_at text k ≡ true
 words_both text from byte to front back k le lt =
     elim (cases_lt k byte) [
-    inl before ↦ front k le before
-  | inr behind ↦ back k behind lt
+      | inl before ↦ front k le before
+      | inr behind ↦ back k behind lt
     ]
 
 pub before_zero : (text : List ℕ) (place : ℕ) → place ≡ 0 → is_word_before text place ≡ false

@@ -1,5 +1,5 @@
 -- What may be put in place of a word, by the program that was read with a filling.
-use Rattle.std.proofs.Common.{◌≡◌, ◌+◌, ℕ, List, Option, Some, None, refl, sym, ap, subst, ◌∙◌}
+use Rattle.std.proofs.Common.{◌≡◌, ◌+◌, ℕ, List, Some, None, refl, sym, ap, subst, ◌∙◌}
 use Rattle.psg_cache.specs.Annotated.{tree_in}
 use Rattle.psg_grammar.specs.declared.types.Definition.{Definition}
 use Rattle.psg_grammar.specs.declared.types.Kind.{Kind}
@@ -50,7 +50,7 @@ module _ (def : Definition) (kind : Kind) (own : List ℕ) (w : Word) (from to :
       (tree_in j.note) fit.path
   placed fit is j same =
       subst (λ f. HasPlaceholder def kind (filled def own w fit.filling) (mark_byte def w fit.filling)
-          fit.filling.phylum f fit.path) (sym same) (placed_by def kind own w fit.filling fit is)
+      fit.filling.phylum f fit.path) (sym same) (placed_by def kind own w fit.filling fit is)
 
   pub completed_offers : (fit : Fitted) → IsFitted def kind own w fit.filling fit
       → IsFirst (Fits def kind own w) (fillings def) (Some fit.filling) → (j : Judged)

@@ -1,6 +1,6 @@
 -- A text that was read with a filling.
-use Rattle.std.proofs.Common.{◌≡◌, ◌≤◌, ◌+◌, ◌⊎◌, inl, inr, Bool, true, false, ℕ, List, [], ◌∷◌, drop, chars, length, slice_get, Option, Some, None, IsTrue, IsUtf8, refl, sym, ap, subst, ◌∙◌, arith}
-use Rattle.std.specs.Prelude.{◌↔◌, IfNone, IfSome, Vec}
+use Rattle.std.proofs.Common.{◌≡◌, ◌≤◌, ◌+◌, inl, inr, Bool, true, false, ℕ, List, [], ◌∷◌, drop, chars, length, slice_get, Option, Some, None, IsUtf8, refl, sym, ap, subst, ◌∙◌, arith}
+use Rattle.std.specs.Prelude.{IfNone, IfSome, Vec}
 use Rattle.std.specs.Str.{IsValidUpTo}
 use Rattle.std.specs.declared.alloc.Global.{Global}
 use Rattle.std.proofs.lemmas.List.{drop_all, take_all}
@@ -15,7 +15,7 @@ use Rattle.psg_grammar.specs.Sizes.{IsBig, IsDeep}
 use Rattle.psg_grammar.specs.WellFormed.{WellFormed, fixed_words}
 use Rattle.psg_class.specs.Class.{IsClass}
 use Rattle.psg_class.specs.Only.{IsOnly}
-use Rattle.psg_class.specs.Texts.{ReadsAs, TextTokens, tokens_of}
+use Rattle.psg_class.specs.Texts.{TextTokens, tokens_of}
 use Rattle.psg_class.specs.Yields.{Yields}
 use Rattle.psg_class.proofs.Law.{only_trees}
 use Rattle.psg_lexis.specs.declared.token.Spanned.{Spanned}
@@ -27,7 +27,7 @@ use Rattle.psg_parse.specs.declared.fault.Goal.{Goal}
 use Rattle.psg_parse.specs.declared.fault.ParseFault.{ParseFault}
 use Rattle.psg_parse.specs.declared.fault.ParseFault.TheVariants as faults
 use Rattle.psg_program.specs.declared.reading.Program.{Program}
-use Rattle.psg_program.specs.Programs.{IsProgramText, IsReadFrom, goal_of}
+use Rattle.psg_program.specs.Programs.{IsProgramText, goal_of}
 use Rattle.psg_ranges.specs.declared.ranges.Range.{Range}
 use Rattle.psg_tree.specs.declared.tree.Part.{Part}
 use Rattle.psg_tree.specs.declared.tree.Part.TheVariants.{Sub, Name, Number, Text}
@@ -91,7 +91,7 @@ node_by f (Some path) = node_at f path
 
 module _ (def : Definition) (kind : Kind) (ts : List Spanned) (f : Fragment) (byte phylum : ℕ) (ranges : List Range)
     (made : (level nesting : ℕ) (y : Yields def f kind level nesting (tokens_of ts))
-      → ranges ≡ ranges_in (nodes_of def f kind level nesting (tokens_of ts) y)) (o : Option Path)
+    → ranges ≡ ranges_in (nodes_of def f kind level nesting (tokens_of ts) y)) (o : Option Path)
     (found : (nodes : Forest) → ranges_in nodes ≡ ranges → IsPointed ts byte nodes o) where
   -- where the byte points
   here : (nesting : ℕ) (y : Yields def f kind 0 nesting (tokens_of ts))
@@ -262,15 +262,17 @@ module _ (def : Definition) (class : IsClass def) (kind : Kind) (text : List ℕ
   as_read tokens are (Some p) h =
       let same : p.tokens.items ≡ tokens.items = ap (λ (v : Vec Spanned Global). v.items) h.0 in
       let own = subst (TextTokens def text) (sym same) are in
-      let t = subst (λ l. IsTreeOf def kind l p.tree) (sym same) h.1 in
-      (record {
-        nesting = t.nesting;
-        reads = record { tokens = p.tokens.items; are = own; yields = t.yields };
-        formed = t.formed;
-        depth = t.depth;
-        brackets = t.brackets;
-        small = t.small;
-      }, record { tokens = own; nesting = t.nesting; yields = t.yields })
+      let t = subst (λ l. IsTreeOf def kind l p.tree) (sym same) h.1 in (
+        record {
+          nesting = t.nesting;
+          reads = record { tokens = p.tokens.items; are = own; yields = t.yields };
+          formed = t.formed;
+          depth = t.depth;
+          brackets = t.brackets;
+          small = t.small;
+        },
+        record { tokens = own; nesting = t.nesting; yields = t.yields },
+      )
 
   pub none_read_as : (ts : List Spanned) → TextTokens def text ts → (o : Option Program)
       → IfNone o ((f : Fragment) → IsTreeOf def kind ts f → ⊥)
@@ -298,7 +300,7 @@ module _ (def : Definition) (class : IsClass def) (kind : Kind) (own : List ℕ)
     (text : List ℕ) (byte : ℕ) (same : text ≡ filled def own w f) (at : byte ≡ mark_byte def w f) where
   pub fitted_is : (p : Program) → IsRead def kind text p → (o : Option Fitted)
       → IfSome o (λ fit. (fit.filling ≡ f) × (fit.program ≡ p)
-          × IsPlaceholderIn def kind p.tokens.items p.tree byte f.phylum fit.path)
+      × IsPlaceholderIn def kind p.tokens.items p.tree byte f.phylum fit.path)
       → IfSome o (IsFitted def kind own w f)
   fitted_is p is None h = tt
   fitted_is p is (Some fit) h = record {
@@ -316,7 +318,7 @@ module _ (def : Definition) (class : IsClass def) (kind : Kind) (own : List ℕ)
   none_fitted p is None h = λ it.
       none_placed def class kind text p is byte f.phylum h it.0 it.1
       (subst (λ t. HasPlaceholder def kind t byte f.phylum it.0 it.1) (sym same)
-        (subst (λ b. HasPlaceholder def kind (filled def own w f) b f.phylum it.0 it.1) (sym at) it.2))
+      (subst (λ b. HasPlaceholder def kind (filled def own w f) b f.phylum it.0 it.1) (sym at) it.2))
   none_fitted p is (Some fit) h = tt
 
   pub none_there : ((g : Fragment) → IsUtf8 text → IsProgramText def kind text g → ⊥) → Fits def kind own w f → ⊥

@@ -1,12 +1,12 @@
 -- The level that is wanted at a path.
-use Rattle.std.proofs.Common.{◌≡◌, Bool, ℕ, List, [], ◌∷◌, ◌++◌, length, Option, Some, None, slice_get, refl, sym, ap, subst, ◌∙◌, arith}
+use Rattle.std.proofs.Common.{◌≡◌, Bool, ℕ, List, [], ◌∷◌, ◌++◌, length, Option, Some, None, slice_get, refl, sym, subst, ◌∙◌, arith}
 use Rattle.std.specs.Prelude.{option_and_then}
 use Rattle.psg_terms.proofs.Lists.{each_at}
 use Rattle.psg_grammar.specs.declared.types.Definition.{Definition}
 use Rattle.psg_grammar.specs.declared.types.Operator.{Operator}
 use Rattle.psg_grammar.specs.Fragments.{Fragment, top_operator}
 use Rattle.psg_grammar.specs.Lookups.{operator_at}
-use Rattle.psg_grammar.specs.Paths.{Path, node_at}
+use Rattle.psg_grammar.specs.Paths.{node_at}
 use Rattle.psg_grammar.specs.Sound.{IsLevel, IsOperator, IsSound}
 use Rattle.psg_tree.specs.Shapes.{list_of}
 use Rattle.psg_unparse.specs.Rows.{operator_of}

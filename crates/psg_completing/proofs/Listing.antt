@@ -1,5 +1,5 @@
 -- The fillings of a definition, one after the other.
-use Rattle.std.proofs.Common.{◌≡◌, ◌<◌, ◌≤◌, ◌+◌, ℕ, suc, List, [], ◌∷◌, ◌++◌, drop, length, refl, sym, ap, ◌∙◌, arith}
+use Rattle.std.proofs.Common.{◌≡◌, ◌<◌, ◌≤◌, ◌+◌, ℕ, suc, List, [], ◌∷◌, ◌++◌, drop, length, sym, ap, ◌∙◌, arith}
 use Rattle.std.specs.Prelude.{get_or}
 use Rattle.std.proofs.lemmas.List.{append-nil, append_assoc, drop_all, drop_more}
 use Rattle.psg_terms.proofs.Lists.{drop_item}
@@ -37,10 +37,10 @@ phyla_next lists row i old new whole lt n h =
     ∙ ap (λ k. old ++ ((filling i Alone ∷ lists_from i 0 lists) ++ fillings_from lists k (drop (i + 1) row)))
     (sym (one_after i))
     ∙ ap (λ l. old ++ fillings_from lists i l) (sym is) ∙ h where
-  some_there : (row : List Phylum) (i : ℕ) → i < length row
-      → (x : Phylum) × (drop i row ≡ x ∷ drop (i + 1) row)
-  some_there [] i lt = absurd (omega (arith, lt))
-  some_there (x ∷ row) i lt = (get_or (x ∷ row) i x, drop_more (x ∷ row) i x lt)
+      some_there : (row : List Phylum) (i : ℕ) → i < length row
+          → (x : Phylum) × (drop i row ≡ x ∷ drop (i + 1) row)
+      some_there [] i lt = absurd (omega (arith, lt))
+      some_there (x ∷ row) i lt = (get_or (x ∷ row) i x, drop_more (x ∷ row) i x lt)
 
 pub phyla_end : (lists : List ListKind) (row : List Phylum) (i : ℕ) (made whole : List Filling) → length row ≤ i
     → made ++ fillings_from lists i (drop i row) ≡ whole → made ≡ whole

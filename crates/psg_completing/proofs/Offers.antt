@@ -1,9 +1,9 @@
 -- What is offered, one operator after the other.
-use Rattle.std.proofs.Common.{◌≡◌, ◌<◌, ◌≤◌, ◌+◌, ◌||◌, Bool, true, false, ℕ, List, [], ◌∷◌, ◌++◌, drop, length, slice_get, Option, Some, None, Result, Ok, Err, refl, sym, ap, ap₂, subst, ◌∙◌}
+use Rattle.std.proofs.Common.{◌≡◌, ◌<◌, ◌≤◌, ◌+◌, ◌||◌, Bool, true, false, ℕ, List, [], ◌∷◌, ◌++◌, drop, length, slice_get, Option, Some, None, Result, Ok, Err, refl, sym, ap, subst, ◌∙◌}
 use Rattle.std.specs.Prelude.{String, Vec, codes, get_or, map, nat_lt, option_map, string_bytes, take}
 use Rattle.std.proofs.lemmas.Option.{none-some, same_Some}
 use Rattle.std.specs.declared.alloc.Global.{Global}
-use Rattle.std.proofs.lemmas.List.{append-nil, append_assoc, drop_all, map-append}
+use Rattle.std.proofs.lemmas.List.{append-nil, append_assoc, drop_all}
 use Rattle.psg_terms.specs.Names.{Name}
 use Rattle.psg_terms.proofs.Lists.{drop_item, drop_there}
 use Rattle.psg_grammar.specs.declared.types.Definition.{Definition}
@@ -79,15 +79,15 @@ module _ (def : Definition) (kind : Kind) (tree : Fragment) (spot : Spot) (least
       (h (here.entries.items ++ entries) (here.more || more)
       (subst (λ ops. Offered ops (here.entries.items ++ entries) (here.more || more))
       (ap (λ n. n ∷ map string_bytes (drop (i + 1) row)) same
-        ∙ sym (ap (map string_bytes) (drop_item row i x lt is)))
+      ∙ sym (ap (map string_bytes) (drop_item row i x lt is)))
       (one_more one rest)))) where
-    row_is : new.entries.items ++ entries ≡ old.entries.items ++ (here.entries.items ++ entries)
-    row_is =
-        ap (λ l. l ++ entries) joined.entries
-        ∙ append_assoc old.entries.items here.entries.items entries
+        row_is : new.entries.items ++ entries ≡ old.entries.items ++ (here.entries.items ++ entries)
+        row_is =
+            ap (λ l. l ++ entries) joined.entries
+            ∙ append_assoc old.entries.items here.entries.items entries
 
-    more_is : (new.more || more) ≡ (old.more || (here.more || more))
-    more_is = ap (λ m. m || more) joined.more ∙ or_assoc old.more here.more more
+        more_is : (new.more || more) ≡ (old.more || (here.more || more))
+        more_is = ap (λ m. m || more) joined.more ∙ or_assoc old.more here.more more
 
   pub offers_end : (all : List Name) (row : List (String Global)) (i : ℕ) (offers : Offers) → length row ≤ i
       → AreSoFar all (map string_bytes (drop i row)) offers → Offered all offers.entries.items offers.more
@@ -137,15 +137,15 @@ module _ (def : Definition) (kind : Kind) (tree : Fragment) (spot : Spot) (least
   by_names_of op own name told names some entries more is same one told_is n s e m =
       subst (λ es. IsOffered def kind tree spot least prefix name es more) (sym entries_is)
       (subst (λ b. IsOffered def kind tree spot least prefix name
-          (entries_with def least name op (take most_names (begun prefix (lines_of told)))) b) (sym more_is)
+      (entries_with def least name op (take most_names (begun prefix (lines_of told)))) b) (sym more_is)
       (by_names op told is one told_is)) where
-    entries_is : entries ≡ entries_with def least name op (take most_names (begun prefix (lines_of told)))
-    entries_is =
-        e ∙ ap (λ x. entries_with def least x op some) same
-        ∙ ap (entries_with def least name op) (s ∙ ap (take most_names) n)
+        entries_is : entries ≡ entries_with def least name op (take most_names (begun prefix (lines_of told)))
+        entries_is =
+            e ∙ ap (λ x. entries_with def least x op some) same
+            ∙ ap (entries_with def least name op) (s ∙ ap (take most_names) n)
 
-    more_is : more ≡ nat_lt most_names (length (begun prefix (lines_of told)))
-    more_is = m ∙ ap (λ l. nat_lt most_names (length l)) n
+        more_is : more ≡ nat_lt most_names (length (begun prefix (lines_of told)))
+        more_is = m ∙ ap (λ l. nat_lt most_names (length l)) n
 
   pub by_itself_of : (op : ℕ) (own name : Name) (entries : List Entry) → op_name_of def op ≡ Some name → own ≡ name
       → one_name (leaves_of def name) ≡ false → entries ≡ entries_with def least own op (codes "name" ∷ [])

@@ -1,5 +1,5 @@
 -- A byte points at one node.
-use Rattle.std.proofs.Common.{◌≡◌, ◌<◌, ◌≤◌, ◌⊎◌, inl, inr, true, false, ℕ, List, [], ◌∷◌, Option, Some, None, refl, sym, ap, subst, ◌∙◌, arith}
+use Rattle.std.proofs.Common.{◌≡◌, inl, inr, true, false, ℕ, List, ◌∷◌, Option, Some, refl, sym, ap, subst, ◌∙◌, arith}
 use Rattle.std.proofs.lemmas.Bool.{cases_lt, false≢true}
 use Rattle.psg_grammar.specs.Paths.{Path}
 use Rattle.psg_lexis.specs.declared.token.Spanned.{Spanned}
@@ -13,12 +13,12 @@ module _ (tokens : List Spanned) (byte : ℕ) where
   one_last : (f : Forest) (j k : ℕ) → IsLastOn tokens byte f j → IsLastOn tokens byte f k → j ≡ k
   one_last f j k a b =
       elim (cases_lt j k) [
-      inl lt ↦ absurd (both (from_nth f k) (a.last k lt) b.on)
-    | inr le ↦
-      elim (cases_lt k j) [
-      inl lt ↦ absurd (both (from_nth f j) (b.last j lt) a.on)
-    | inr ge ↦ omega (arith, le, ge)
-      ]
+        | inl lt ↦ absurd (both (from_nth f k) (a.last k lt) b.on)
+        | inr le ↦
+            elim (cases_lt k j) [
+              | inl lt ↦ absurd (both (from_nth f j) (b.last j lt) a.on)
+              | inr ge ↦ omega (arith, le, ge)
+            ]
       ]
 
   leads_once : (f : Forest) (p q : Path) → Leads tokens byte f p → Leads tokens byte f q → p ≡ q

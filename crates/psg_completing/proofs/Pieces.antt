@@ -1,5 +1,5 @@
 -- The text with a filling, piece by piece.
-use Rattle.std.proofs.Common.{◌≡◌, ◌≤◌, ◌+◌, ℕ, suc, List, [], ◌∷◌, ◌++◌, drop, length, take, sym, ap, ◌∙◌, refl, arith}
+use Rattle.std.proofs.Common.{◌≡◌, ◌≤◌, ◌+◌, ℕ, List, [], ◌∷◌, ◌++◌, drop, length, take, sym, ap, ◌∙◌, refl, arith}
 use Rattle.std.proofs.lemmas.List.{append_assoc, length-append, length-take-le}
 use Rattle.psg_grammar.specs.declared.types.Definition.{Definition}
 use Rattle.psg_tree.specs.AbstractText.{phylum_name}
@@ -24,26 +24,26 @@ eight : (a c e f h t1 t2 t3 t4 t5 t6 t7 t8 : List ℕ) → t1 ≡ a → t2 ≡ t
 eight a c e f h t1 t2 t3 t4 t5 t6 t7 t8 e1 e2 e3 e4 e5 e6 e7 e8 =
     whole ∙ all_right a (32 ∷ []) c (63 ∷ []) e f (32 ∷ []) h
     ∙ ap (λ r. a ++ (32 ∷ (c ++ (63 ∷ (e ++ r))))) (sym (append_assoc f (32 ∷ []) h)) where
-    u2 : t2 ≡ a ++ 32 ∷ []
-    u2 = e2 ∙ ap (λ l. l ++ 32 ∷ []) e1
+      u2 : t2 ≡ a ++ 32 ∷ []
+      u2 = e2 ∙ ap (λ l. l ++ 32 ∷ []) e1
 
-    u3 : t3 ≡ (a ++ 32 ∷ []) ++ c
-    u3 = e3 ∙ ap (λ l. l ++ c) u2
+      u3 : t3 ≡ (a ++ 32 ∷ []) ++ c
+      u3 = e3 ∙ ap (λ l. l ++ c) u2
 
-    u4 : t4 ≡ ((a ++ 32 ∷ []) ++ c) ++ 63 ∷ []
-    u4 = e4 ∙ ap (λ l. l ++ 63 ∷ []) u3
+      u4 : t4 ≡ ((a ++ 32 ∷ []) ++ c) ++ 63 ∷ []
+      u4 = e4 ∙ ap (λ l. l ++ 63 ∷ []) u3
 
-    u5 : t5 ≡ (((a ++ 32 ∷ []) ++ c) ++ 63 ∷ []) ++ e
-    u5 = e5 ∙ ap (λ l. l ++ e) u4
+      u5 : t5 ≡ (((a ++ 32 ∷ []) ++ c) ++ 63 ∷ []) ++ e
+      u5 = e5 ∙ ap (λ l. l ++ e) u4
 
-    u6 : t6 ≡ ((((a ++ 32 ∷ []) ++ c) ++ 63 ∷ []) ++ e) ++ f
-    u6 = e6 ∙ ap (λ l. l ++ f) u5
+      u6 : t6 ≡ ((((a ++ 32 ∷ []) ++ c) ++ 63 ∷ []) ++ e) ++ f
+      u6 = e6 ∙ ap (λ l. l ++ f) u5
 
-    u7 : t7 ≡ (((((a ++ 32 ∷ []) ++ c) ++ 63 ∷ []) ++ e) ++ f) ++ 32 ∷ []
-    u7 = e7 ∙ ap (λ l. l ++ 32 ∷ []) u6
+      u7 : t7 ≡ (((((a ++ 32 ∷ []) ++ c) ++ 63 ∷ []) ++ e) ++ f) ++ 32 ∷ []
+      u7 = e7 ∙ ap (λ l. l ++ 32 ∷ []) u6
 
-    whole : t8 ≡ ((((((a ++ 32 ∷ []) ++ c) ++ 63 ∷ []) ++ e) ++ f) ++ 32 ∷ []) ++ h
-    whole = e8 ∙ ap (λ l. l ++ h) u7
+      whole : t8 ≡ ((((((a ++ 32 ∷ []) ++ c) ++ 63 ∷ []) ++ e) ++ f) ++ 32 ∷ []) ++ h
+      whole = e8 ∙ ap (λ l. l ++ h) u7
 
 -- how many bytes are before the placeholder
 three : (own c t1 t2 t3 : List ℕ) (from byte : ℕ) → from ≤ length own → t1 ≡ take from own → t2 ≡ t1 ++ 32 ∷ []

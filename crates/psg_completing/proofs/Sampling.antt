@@ -1,8 +1,7 @@
 -- What an entry writes, part by part.
-use Rattle.std.proofs.Common.{◌≡◌, ◌<◌, ◌≤◌, ◌+◌, ℕ, List, [], ◌∷◌, ◌++◌, drop, length, Option, Some, None, refl, sym, ap, ◌∙◌}
+use Rattle.std.proofs.Common.{◌≡◌, ◌<◌, ◌≤◌, ◌+◌, ℕ, List, [], ◌∷◌, ◌++◌, drop, length, Some, refl, sym, ap, ◌∙◌}
 use Rattle.std.specs.Prelude.{get_or}
-use Rattle.std.specs.Str.{trim}
-use Rattle.std.proofs.lemmas.List.{append-nil, append_assoc, drop_all}
+use Rattle.std.proofs.lemmas.List.{drop_all}
 use Rattle.psg_terms.specs.Names.{Name}
 use Rattle.psg_terms.proofs.Lists.{drop_item}
 use Rattle.psg_grammar.specs.declared.types.Definition.{Definition}
@@ -31,8 +30,8 @@ pub sample_first : (def : Definition) (name : Name) (op : ℕ) (o : Operator) (i
 sample_first def name op o items parts is i none =
     ap (λ ps. with_samples def name (with_parts (operator op) ps) items) none
     ∙ ap (with_samples def name (operator op)) (i ∙ own_items) where
-    own_items : o.items ≡ items_in (operator_at def op)
-    own_items = sym (ap items_in is)
+      own_items : o.items ≡ items_in (operator_at def op)
+      own_items = sym (ap items_in is)
 
 pub sample_next : (def : Definition) (name : Name) (op : ℕ) (items : List Item) (i : ℕ) (item : Item)
     (old new : List Part) (whole : Fragment) → i < length items → item ≡ get_or items i item

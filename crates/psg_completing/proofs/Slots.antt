@@ -1,7 +1,6 @@
 -- The slots among the items of an operator.
-use Rattle.std.proofs.Common.{◌≡◌, ◌<◌, ◌≤◌, ◌+◌, ◌-◌, ◌==◌, ◌&&◌, Bool, true, false, cond, ℕ, zero, suc, List, length, take, Some, slice_get, refl, sym, ap, subst, ◌∙◌, arith}
+use Rattle.std.proofs.Common.{◌≡◌, ◌<◌, ◌≤◌, ◌+◌, ◌-◌, ◌==◌, ◌&&◌, Bool, true, false, cond, ℕ, zero, suc, List, length, take, Some, slice_get, refl, sym, ap, ◌∙◌, arith}
 use Rattle.std.specs.Prelude.{count_by, get_or}
-use Rattle.std.specs.List.{sum_by}
 use Rattle.std.proofs.lemmas.Bool.{eqb-true, false≢true, true≢false}
 use Rattle.std.proofs.lemmas.List.{take_all}
 use Rattle.std.proofs.lemmas.List.Sums.{count_by_more_no, count_by_more_yes, sum_by-take-le}
@@ -10,7 +9,7 @@ use Rattle.psg_grammar.specs.declared.types.Item.{Item}
 use Rattle.psg_grammar.specs.declared.types.Item.TheVariants as items
 use Rattle.psg_grammar.specs.declared.types.Kind.{Kind}
 use Rattle.psg_grammar.specs.declared.types.Operator.{Operator}
-use Rattle.psg_grammar.specs.Levels.{IsSlotAt, is_slot}
+use Rattle.psg_grammar.specs.Levels.{is_slot}
 use Rattle.psg_completing.specs.Wanted.{IsSlotOf}
 
 slot_is : (i : Item) → is_slot i ≡ true → (kind : Kind) × (i ≡ items.Slot kind)
@@ -60,8 +59,10 @@ slot_here o row i x number left slot same lt is so due h =
     let (kind, own) = slot_is x (sym so ∙ one) in
     let zero_left : left ≡ 0 = eqb-true left 0 none in
     record {
-      is_slot_there = (kind,
-        ap (λ l. slice_get l i) (sym same) ∙ slice_get-get_or row i x lt ∙ ap Some (sym is ∙ own));
+      is_slot_there = (
+        kind,
+        ap (λ l. slice_get l i) (sym same) ∙ slice_get-get_or row i x lt ∙ ap Some (sym is ∙ own),
+      );
       many_before = ap (λ l. count_by is_slot (take i l)) (sym same) ∙ omega (arith, h, zero_left);
     }
 

@@ -8,7 +8,7 @@ use Rattle.psg_grammar.specs.Fragments.{with_text, anything, observed}
 use Rattle.psg_grammar.specs.Paths.{Path, node_at}
 use Rattle.psg_grammar.specs.Sizes.{IsBig, IsDeep}
 use Rattle.psg_grammar.specs.WellFormed.{WellFormed}
-use Rattle.psg_class.specs.Texts.{TextTokens, tokens_of}
+use Rattle.psg_class.specs.Texts.{tokens_of}
 use Rattle.psg_class.specs.Yields.{Yields}
 use Rattle.psg_lexis.specs.declared.token.LexFault.{LexFault}
 use Rattle.psg_lexis.specs.declared.token.LexFault.TheVariants as lexical

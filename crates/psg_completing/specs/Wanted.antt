@@ -1,5 +1,5 @@
 -- The level that is wanted in a slot.
-use Rattle.std.specs.Prelude.{ℕ, ◌≡◌, List, take, count_by, Option, Some, None}
+use Rattle.std.specs.Prelude.{ℕ, ◌≡◌, take, count_by, Option, Some, None}
 use Rattle.psg_grammar.specs.declared.types.Operator.{Operator}
 use Rattle.psg_grammar.specs.Levels.{IsSlotAt, is_slot, least_level_of}
 

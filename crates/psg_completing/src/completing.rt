@@ -53,7 +53,10 @@ struct Target {
 fn is_symbol(byte: u8) -> bool
     ensures { result ≡ is_symbol_of byte }
 {
-    "+-*/%<>=!&|^~:.@#$".as_bytes().iter().any(|symbol| byte == *symbol)
+    "+-*/%<>=!&|^~:.@#$"
+        .as_bytes()
+        .iter()
+        .any(|symbol| byte == *symbol)
 }
 
 /// Says whether the byte runs together with one beside it.

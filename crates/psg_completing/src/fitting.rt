@@ -125,7 +125,14 @@ fn tree_in<L: Ledger>(
         ((f : Fragment) → IsTreeOf language.now kind tokens.now f → ⊥)) }
 {
     let definition = language.definition();
-    match parse_with(alloc, definition, language.table(), whole(kind), tokens, steps) {
+    match parse_with(
+        alloc,
+        definition,
+        language.table(),
+        whole(kind),
+        tokens,
+        steps,
+    ) {
         Ok(tree) => {
             let big = is_big(&tree);
             if big {

@@ -1,4 +1,4 @@
-use Rattle.std.proofs.Common.{◌≤◌, arith}
+use Rattle.std.proofs.Common.{arith}
 use Rattle.psg_completing.proofs.Arounds.{words_behind}
 use Rattle.psg_completing.proofs.around.run_end.Goals as goal
 

@@ -1,4 +1,4 @@
-use Rattle.std.proofs.Common.{◌≤◌, arith}
+use Rattle.std.proofs.Common.{arith}
 use Rattle.psg_completing.proofs.Arounds.{words_before}
 use Rattle.psg_completing.proofs.around.run_start.Goals as goal
 

@@ -10,7 +10,7 @@ mark_here-requires c = c.requires.within
 pub run_end-to-requires : goal.run_end-to-requires
 run_end-to-requires c =
     (some_in (λ inner. (c.args.start ≡ c.args.byte) × (is_mark_at c.args.text.now c.args.byte ≡ true)
-        × (inner ≡ suc c.args.byte) × (inner ≤ length c.args.text.now)) c.mark_here.result c.in-Some.inner c.in-Some.is
+    × (inner ≡ suc c.args.byte) × (inner ≤ length c.args.text.now)) c.mark_here.result c.in-Some.inner c.in-Some.is
     c.mark_here.ensures.some).3
 
 pub run_end-end-requires : goal.run_end-end-requires
@@ -19,7 +19,7 @@ run_end-end-requires c = c.requires.within
 pub returns-in-Some-clause-around : goal.returns-in-Some-clause-around
 returns-in-Some-clause-around c =
     let here = some_in (λ inner. (c.args.start ≡ c.args.byte) × (is_mark_at c.args.text.now c.args.byte ≡ true)
-        × (inner ≡ suc c.args.byte) × (inner ≤ length c.args.text.now)) c.mark_here.result c.in-Some.inner c.in-Some.is
+    × (inner ≡ suc c.args.byte) × (inner ≤ length c.args.text.now)) c.mark_here.result c.in-Some.inner c.in-Some.is
     c.mark_here.ensures.some in
     word_here c.args.text.now c.args.byte c.args.start c.in-Some.inner c.run_end-to.result here.0 here.1 here.2
     c.requires.before c.requires.mark c.run_end-to.ensures.order c.run_end-to.ensures.words c.run_end-to.ensures.behind
@@ -27,7 +27,7 @@ returns-in-Some-clause-around c =
 pub returns-in-Some-clause-order : goal.returns-in-Some-clause-order
 returns-in-Some-clause-order c =
     let here = some_in (λ inner. (c.args.start ≡ c.args.byte) × (is_mark_at c.args.text.now c.args.byte ≡ true)
-        × (inner ≡ suc c.args.byte) × (inner ≤ length c.args.text.now)) c.mark_here.result c.in-Some.inner c.in-Some.is
+    × (inner ≡ suc c.args.byte) × (inner ≤ length c.args.text.now)) c.mark_here.result c.in-Some.inner c.in-Some.is
     c.mark_here.ensures.some in
     let e = here.2 in
     let more = c.run_end-to.ensures.order in

@@ -1,4 +1,4 @@
-use Rattle.std.proofs.Common.{◌≡◌, ◌≤◌, suc, true, false, arith}
+use Rattle.std.proofs.Common.{◌≡◌, suc, true, false, arith}
 use Rattle.psg_completing.specs.Around.{is_mark_at, is_mark_before}
 use Rattle.psg_completing.proofs.Arounds.{marked_word}
 use Rattle.psg_pointing.proofs.Walks.{none_in, some_in}

@@ -1,4 +1,4 @@
-use Rattle.std.proofs.Common.{Some, None, subst}
+use Rattle.std.proofs.Common.{subst}
 use Rattle.psg_completing.specs.Fillings.{Fits, IsFirst, fillings}
 use Rattle.psg_completing.specs.Fitted.{IsFitted, filling_in}
 use Rattle.psg_completing.proofs.Completions.{completed_none}
@@ -20,5 +20,5 @@ returns-in_ok-empty-in-None g c =
     completed_none c.args.language.now c.args.kind c.args.own.now c.args.target.word c.args.target.from c.args.target.to
     c.in_ok-empty-in-None.empty
     (subst (λ o. IsFirst (Fits c.args.language.now c.args.kind c.args.own.now c.args.target.word)
-        (fillings c.args.language.now) (filling_in o)) c.in-None.is c.in_ok-found.ensures.first)
+    (fillings c.args.language.now) (filling_in o)) c.in-None.is c.in_ok-found.ensures.first)
     c.in_ok-empty-in-None.ensures

@@ -1,4 +1,4 @@
-use Rattle.std.proofs.Common.{Some, None, ap, subst, ◌∙◌, ◌≡◌}
+use Rattle.std.proofs.Common.{ap, subst, ◌∙◌, ◌≡◌}
 use Rattle.psg_cache.specs.Annotated.{tree_in}
 use Rattle.psg_completing.specs.Fillings.{filled}
 use Rattle.psg_pointing.specs.Judging.{IsKnownOf}
@@ -29,16 +29,16 @@ returns-in_ok-behind-in-Some g c =
     completed_offers language c.args.kind c.args.own.now word c.args.target.from c.args.target.to c.args.fit
     c.requires.fitted c.requires.first c.in-Some.judged
     (judged_in language c.args.kind own c.in-Some.judged
-      (subst (IsKnownOf language c.args.kind own) c.in-Some.is
-        (c.in_ok-found.ensures.known own read.is_text read.program read.read)))
+    (subst (IsKnownOf language c.args.kind own) c.in-Some.is
+    (c.in_ok-found.ensures.known own read.is_text read.program read.read)))
     same.0 c.in_ok-offers-in-Some.offers
     (subst (λ p. AreOffersIn language c.args.kind (tree_in c.in-Some.judged.note) c.args.fit.path p
-        c.in_ok-offers-in-Some.offers) c.prefix_of-prefix.ensures c.in_ok-offers-in-Some.ensures)
+    c.in_ok-offers-in-Some.offers) c.prefix_of-prefix.ensures c.in_ok-offers-in-Some.ensures)
     _ _
     (c.in_ok-before-in-Some.ensures
-      ∙ ap (λ d. put_before d c.args.own.now word c.args.fit.filling.side) c.definition-definition.ensures.same)
+    ∙ ap (λ d. put_before d c.args.own.now word c.args.fit.filling.side) c.definition-definition.ensures.same)
     (c.in_ok-behind-in-Some.ensures
-      ∙ ap (λ d. put_behind d c.args.own.now word c.args.fit.filling.side) c.definition-definition.ensures.same)
+    ∙ ap (λ d. put_behind d c.args.own.now word c.args.fit.filling.side) c.definition-definition.ensures.same)
 
 pub returns-in_ok-empty-in-None : goal.returns-in_ok-empty-in-None
 returns-in_ok-empty-in-None g c =
@@ -48,6 +48,6 @@ returns-in_ok-empty-in-None g c =
     completed_much language c.args.kind c.args.own.now c.args.target.word c.args.target.from c.args.target.to
     c.args.fit.filling c.in_ok-empty-in-None.empty c.requires.first
     (limited_in language c.args.kind own
-      (subst (IsKnownOf language c.args.kind own) c.in-None.is
-        (c.in_ok-found.ensures.known own read.is_text read.program read.read)))
+    (subst (IsKnownOf language c.args.kind own) c.in-None.is
+    (c.in_ok-found.ensures.known own read.is_text read.program read.read)))
     c.in_ok-empty-in-None.ensures

@@ -1,4 +1,4 @@
-use Rattle.std.proofs.Common.{◌≤◌, ap, length, subst, sym, arith}
+use Rattle.std.proofs.Common.{ap, length, arith}
 use Rattle.psg_completing.proofs.Completions.{completion_is}
 use Rattle.psg_completing.proofs.completing.completion_at.Goals as goal
 

@@ -32,11 +32,11 @@ returns-in-Some-clause-first g c =
     c.loop-number.number c.filling_at-put.result c.in-Some.fit.filling c.filling_at-put.ensures is.filling_is
     (it_fits c.args.language.now c.args.kind c.args.own.now c.args.word c.filling_at-put.result c.in-Some.fit is)
     (c.as_slice-row.ensures.value ∙ c.in_ok-all.ensures
-      ∙ ap (λ d. all_of d) c.definition-definition.ensures.same) c.loop-number.invariant
+    ∙ ap (λ d. all_of d) c.definition-definition.ensures.same) c.loop-number.invariant
 
 pub returns-clause-first : goal.returns-clause-first
 returns-clause-first g c =
     first_none (Fits c.args.language.now c.args.kind c.args.own.now c.args.word) c.as_slice-row.result.now _
     c.loop-number.number c.loop-number-test.false
     (c.as_slice-row.ensures.value ∙ c.in_ok-all.ensures
-      ∙ ap (λ d. all_of d) c.definition-definition.ensures.same) c.loop-number.invariant
+    ∙ ap (λ d. all_of d) c.definition-definition.ensures.same) c.loop-number.invariant

@@ -1,4 +1,4 @@
-use Rattle.std.proofs.Common.{sym, subst, ◌∙◌}
+use Rattle.std.proofs.Common.{sym, ◌∙◌}
 use Rattle.std.proofs.lemmas.Bool.{true≢false}
 use Rattle.psg_completing.proofs.Fits.{fault_for, formed_for, none_read, not_big, parsed_for, tree_is}
 use Rattle.psg_completing.proofs.fitting.tree_in.Goals as goal

@@ -16,16 +16,16 @@ sample_text-requires c = record {
 pub loop-place-preserved : goal.loop-place-preserved
 loop-place-preserved c =
     mapped_at (λ name. entry c.args.operator.now.name
-        (sample_text c.args.open.known.program.language.now c.args.open.least name c.args.op))
+    (sample_text c.args.open.known.program.language.now c.args.open.least name c.args.op))
     c.args.names.now c.loop-place.place c.name_at-name.result.now _ _ _ _ c.name_at-name.ensures
     (ap₂ entry c.in_ok-own.ensures
-      (c.in_ok-text.ensures
-        ∙ ap (λ d. sample_text d c.args.open.least c.name_at-name.result.now c.args.op)
-        c.definition-definition.ensures.same))
+    (c.in_ok-text.ensures
+    ∙ ap (λ d. sample_text d c.args.open.least c.name_at-name.result.now c.args.op)
+    c.definition-definition.ensures.same))
     c.in_ok-push.ensures.items c.loop-place.invariant
 
 pub returns : goal.returns
 returns c =
     mapped_end (λ name. entry c.args.operator.now.name
-        (sample_text c.args.open.known.program.language.now c.args.open.least name c.args.op))
+    (sample_text c.args.open.known.program.language.now c.args.open.least name c.args.op))
     c.args.names.now c.loop-place.place _ _ c.loop-place-test.false c.loop-place.invariant

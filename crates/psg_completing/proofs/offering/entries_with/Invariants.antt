@@ -7,5 +7,5 @@ use Rattle.psg_completing.proofs.offering.entries_with.Given as goal
 abbrev pub invariant-loop-place : goal.invariant-loop-place
 invariant-loop-place l =
     l.entries.items ++ map (λ name. entry l.operator.name (sample_text l.open.known.program.language.now l.open.least name l.op))
-        (drop l.place l.names)
+    (drop l.place l.names)
     ≡ entries_with l.open.known.program.language.now l.open.least l.operator.name l.op l.names

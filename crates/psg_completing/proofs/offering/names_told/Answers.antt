@@ -11,8 +11,9 @@ names_at-requires g c = c.requires
 pub returns : goal.returns
 returns g c =
     let known = c.args.open.known in
-    let tree = tree_in known.program.note.now in
-    (option_map read_of c.in_ok-read.read,
+    let tree = tree_in known.program.note.now in (
+      option_map read_of c.in_ok-read.read,
       subst (λ n. IsToldOf known.program.language.now known.program.kind tree c.args.open.spot.now (names_of n)
           (names_told tree) (option_map read_of c.in_ok-read.read)) c.in_ok-name.ensures c.in_ok-read.ensures.told,
-      c.in_ok-names.ensures)
+      c.in_ok-names.ensures,
+    )

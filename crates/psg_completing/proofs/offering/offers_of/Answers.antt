@@ -1,4 +1,4 @@
-use Rattle.std.proofs.Common.{Some, ap, subst, sym, ◌∙◌, ◌≡◌}
+use Rattle.std.proofs.Common.{Some, subst, sym, ◌≡◌}
 use Rattle.psg_cache.specs.Annotated.{tree_in}
 use Rattle.psg_grammar.specs.Kinds.{op_name_of}
 use Rattle.psg_grammar.specs.Sound.{IsSound}
@@ -23,5 +23,5 @@ returns-in-None g c =
     unknown_of gap.known.program.language.now gap.known.program.kind (tree_in gap.known.program.note.now)
     gap.spot.now gap.least gap.prefix.now c.args.name.now c.no_offers.result
     (not_named gap.known.program.language.now c.definition-definition.result.now c.args.name.now c.op_named.result
-      c.definition-definition.ensures.same c.op_named.ensures.only c.in-None.is)
+    c.definition-definition.ensures.same c.op_named.ensures.only c.in-None.is)
     c.no_offers.ensures.entries c.no_offers.ensures.more

@@ -1,4 +1,4 @@
-use Rattle.std.proofs.Common.{Some, ap, subst, sym, ◌∙◌, ◌≡◌}
+use Rattle.std.proofs.Common.{ap, sym, ◌∙◌}
 use Rattle.psg_cache.specs.Annotated.{tree_in}
 use Rattle.psg_grammar.specs.Lookups.{operator_at}
 use Rattle.psg_keymap.specs.Leaves.{leaves_of}
@@ -35,8 +35,8 @@ returns-then-named g c =
     c.first_names-some.result.now c.in_ok-entries.entries.items c.has_more-more.result c.requires.name
     (own_name (operator_at def c.args.op) c.operator_of-operator.result.now c.args.name.now own c.requires.name)
     (ap one_name (sym (c.as_slice-row.ensures.value ∙ c.in_ok-leaves.ensures
-        ∙ ap (λ d. leaves_of d c.args.name.now) c.definition-definition.ensures.same))
-      ∙ sym c.one_name-named.ensures ∙ c.if-named.true)
+    ∙ ap (λ d. leaves_of d c.args.name.now) c.definition-definition.ensures.same))
+    ∙ sym c.one_name-named.ensures ∙ c.if-named.true)
     told_is (c.as_slice-all.ensures.value ∙ names) c.first_names-some.ensures c.in_ok-entries.ensures
     c.has_more-more.ensures
 
@@ -50,6 +50,6 @@ returns g c =
     c.args.op c.operator_of-operator.result.now.name c.args.name.now c.in_ok-single.single.items c.requires.name
     (own_name (operator_at def c.args.op) c.operator_of-operator.result.now c.args.name.now own c.requires.name)
     (ap one_name (sym (c.as_slice-row.ensures.value ∙ c.in_ok-leaves.ensures
-        ∙ ap (λ d. leaves_of d c.args.name.now) c.definition-definition.ensures.same))
-      ∙ sym c.one_name-named.ensures ∙ c.if-named.false)
+    ∙ ap (λ d. leaves_of d c.args.name.now) c.definition-definition.ensures.same))
+    ∙ sym c.one_name-named.ensures ∙ c.if-named.false)
     c.in_ok-single.ensures

@@ -10,5 +10,5 @@ returns c =
     c.in_ok-entries.ensures
     ∙ ap (entries_with c.args.open.known.program.language.now c.args.open.least c.args.operator.now.name c.args.op)
     (c.as_slice-row.ensures.value ∙ c.in_ok-push.ensures.items
-      ∙ ap (λ l. l ++ c.in_ok-name.name ∷ []) c.new-names.ensures.items
-      ∙ ap (λ n. n ∷ []) c.in_ok-name.ensures)
+    ∙ ap (λ l. l ++ c.in_ok-name.name ∷ []) c.new-names.ensures.items
+    ∙ ap (λ n. n ∷ []) c.in_ok-name.ensures)

@@ -1,4 +1,4 @@
-use Rattle.std.proofs.Common.{ap, refl, sym, ◌∙◌}
+use Rattle.std.proofs.Common.{ap, sym, ◌∙◌}
 use Rattle.psg_grammar.specs.Fragments.{with_child, with_name, with_text}
 use Rattle.psg_completing.specs.Samples.{with_sample}
 use Rattle.psg_completing.proofs.Sampling.{sample_pushed}

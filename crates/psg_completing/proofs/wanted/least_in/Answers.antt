@@ -14,8 +14,8 @@ pub returns-in-Some : goal.returns-in-Some
 returns-in-Some c =
     subst (IsLeastUnder c.args.number (Some c.args.operator.now)) (sym c.least_level-least.ensures)
     (of_slot c.args.operator.now c.in-Some.place
-      (some_in (IsSlotOf c.args.operator.now c.args.number) c.slot_place.result c.in-Some.place c.in-Some.is
-        c.slot_place.ensures.some))
+    (some_in (IsSlotOf c.args.operator.now c.args.number) c.slot_place.result c.in-Some.place c.in-Some.is
+    c.slot_place.ensures.some))
 
 pub returns-in-None : goal.returns-in-None
 returns-in-None c =
