@@ -1,6 +1,6 @@
 use Rattle.std.specs.Prelude.{drop}
 use Rattle.psg_server.proofs.CompletionLaws.{AreSoFar}
-use Rattle.psg_server.proofs.completing.items.Goals as goal
+use Rattle.psg_server.proofs.completing.items.Given as goal
 
 abbrev pub invariant-loop-place : goal.invariant-loop-place
 invariant-loop-place l =
