@@ -54,6 +54,10 @@ local function run()
     local told = asked("textDocument/hover", 1, 2)
     return told and told.contents.value
   end)
+  want("completion", { "begin ... do ... end", "while ?Exp do ... od", "skip" }, function()
+    local told = asked("textDocument/completion", 1, 4)
+    return told and vim.tbl_map(function(item) return item.label end, told.items)
+  end)
 end
 
 -- names: where one is declared, and a new name for all that mean the same

@@ -6,6 +6,8 @@ use Rattle.serde_json.specs.Data.{unsigned, negative, float, Data, null, boolean
 use Rattle.serde_json.specs.Find.{as_str, get, is_float, of_integer}
 use Rattle.serde_json.specs.View.{items_of}
 use Rattle.serde_json.specs.Written.{has_float, items_have_float}
+use Rattle.psg_completing.specs.declared.completing.Completion.{Completion}
+use Rattle.psg_completing.specs.declared.offering.Entry.{Entry}
 use Rattle.psg_documents.specs.declared.encoding.Encoding.{Encoding}
 use Rattle.psg_documents.specs.declared.encoding.Encoding.TheVariants as encodings
 use Rattle.psg_documents.specs.declared.lines.Position.{Position}
@@ -26,9 +28,10 @@ use Rattle.psg_server.specs.declared.documents.Document.{Document}
 use Rattle.psg_server.specs.declared.methods.Ask.{Ask}
 use Rattle.psg_server.specs.declared.methods.Ask.TheVariants as asked
 use Rattle.psg_server.specs.declared.server.Server.{Server}
-use Rattle.psg_server.specs.Answering.{asks, asks_none, names, names_none, names_not}
+use Rattle.psg_server.specs.Answering.{completes, completes_none, asks, asks_none, names, names_none, names_not}
 use Rattle.psg_server.specs.Answering.{Answers, Gets, Out, Serves, changes, changes_none, closes, closes_none, exits, formats, formats_none, greets, hovers, hovers_none, is_passed, is_refused, is_served, json, no_json, opens, opens_none, sent, shuts_down, reason_of}
 use Rattle.psg_server.specs.Capabilities.{greeting_of}
+use Rattle.psg_server.specs.Completing.{AreItems, IsCompletedIn, no_items, one_item}
 use Rattle.psg_server.specs.Diagnostics.{AreDiagnostics, IsPublished, IsPublishedOf, all_told, diagnostic_data, more_may_follow, one_more, publish_data, severity_of}
 use Rattle.psg_server.specs.Edits.{IsFormatting, IsFormattingOf, as_it_is, no_program, one_edit}
 use Rattle.psg_server.specs.Fields.{Renamed, changed_in, encoding_in, wants_declaring}
@@ -250,6 +253,26 @@ named_plain def kind encoding address (Some text) r d so =
     ap has_float so.is
     ∙ ap (λ a. (a || false) || false) (all_plain encoding text (as_edit r.name) true so.spots.items so.edits so.are)
 
+-- ---- what may be put at a place
+
+entries_plain : (encoding : Encoding) (text : List ℕ) (c : Completion) (filter : List ℕ) (es : List Entry) (ds : List Data)
+    → AreItems encoding text c filter es ds → items_have_float (items_of ds) ≡ false
+entries_plain encoding text c filter _ _ no_items = refl
+entries_plain encoding text c filter _ _ (one_item {es} {ds} e d is rest) =
+    ap₂ (λ a b. a || b)
+    (ap has_float is.is
+      ∙ ap (λ a. false || (false || (false || ((false || (a || false)) || false))))
+      (range_plain encoding text c.from c.to is.range is.is_range))
+    (entries_plain encoding text c filter es ds rest)
+
+completed_plain : (def : Definition) (kind : Kind) (encoding : Encoding) (text : Option (List ℕ)) (position : Position)
+    (d : Data) → IsCompletedIn def kind encoding text position d → has_float d ≡ false
+completed_plain def kind encoding None position d e = ap has_float e
+completed_plain def kind encoding (Some text) position d so =
+    ap has_float so.is.is
+    ∙ ap (λ a. false || (a || false))
+    (entries_plain encoding text so.completion so.is.filter so.completion.entries.items so.is.items so.is.are)
+
 -- ---- what is sent
 
 published_plain : (def : Definition) (kind : Kind) (encoding : Encoding) (d : Document) (told : Data)
@@ -274,6 +297,10 @@ module _ (def : Definition) (kind : Kind) where
   served_plain _ old _ _ _ (hovers id method given p told is there so) h =
       answer_plain id told (plain_id id h) (hover_plain def kind old.encoding p.document.text p.position told so)
   served_plain _ old _ _ _ (hovers_none id method given is none) h =
+      refusal_plain (Some id) faults.WrongParams (reason_of faults.WrongParams) h
+  served_plain _ old _ _ _ (completes id method given p told is there so) h =
+      answer_plain id told (plain_id id h) (completed_plain def kind old.encoding p.document.text p.position told so)
+  served_plain _ old _ _ _ (completes_none id method given is none) h =
       refusal_plain (Some id) faults.WrongParams (reason_of faults.WrongParams) h
   served_plain _ old _ _ _ (asks id method given p ask value is there so) h =
       answer_plain id value (plain_id id h)

@@ -7,7 +7,7 @@ use Rattle.psg_grammar.specs.declared.types.Kind.{Kind}
 use Rattle.psg_messages.specs.Messages.{Said}
 use Rattle.psg_server.specs.declared.documents.Document.{Document}
 use Rattle.psg_server.specs.declared.server.Server.{Server}
-use Rattle.psg_server.specs.Answering.{asks, asks_none, names, names_none, names_not}
+use Rattle.psg_server.specs.Answering.{completes, completes_none, asks, asks_none, names, names_none, names_not}
 use Rattle.psg_server.specs.Answering.{Gets, Out, Serves, changes, changes_none, closes, closes_none, exits, formats, formats_none, greets, hovers, hovers_none, is_passed, is_refused, is_served, open_at, opens, opens_none, shuts_down}
 use Rattle.psg_server.specs.Apart.{KeepsApart, KeepsOthers, named_by}
 use Rattle.psg_server.specs.Documents.{AreApart, document_at, is_at}
@@ -42,6 +42,8 @@ module _ (def : Definition) (kind : Kind) where
   served _ old encoding documents out address (formats_none id method given is none) apart = refl
   served _ old encoding documents out address (hovers id method given p told is there so) apart = refl
   served _ old encoding documents out address (hovers_none id method given is none) apart = refl
+  served _ old encoding documents out address (completes id method given p told is there so) apart = refl
+  served _ old encoding documents out address (completes_none id method given is none) apart = refl
   served _ old encoding documents out address (asks id method given p ask value is there so) apart = refl
   served _ old encoding documents out address (asks_none id method given ask is none) apart = refl
   served _ old encoding documents out address (names id method given d r value is there says so) apart = refl
@@ -73,6 +75,8 @@ module _ (def : Definition) (kind : Kind) where
   stays _ old encoding documents out (formats_none id method given is none) ok = ok
   stays _ old encoding documents out (hovers id method given p told is there so) ok = ok
   stays _ old encoding documents out (hovers_none id method given is none) ok = ok
+  stays _ old encoding documents out (completes id method given p told is there so) ok = ok
+  stays _ old encoding documents out (completes_none id method given is none) ok = ok
   stays _ old encoding documents out (asks id method given p ask value is there so) ok = ok
   stays _ old encoding documents out (asks_none id method given ask is none) ok = ok
   stays _ old encoding documents out (names id method given d r value is there says so) ok = ok

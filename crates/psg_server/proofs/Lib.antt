@@ -8,3 +8,4 @@ mod LinkingLaws
 mod ServeLaws
 mod TextLaws
 mod WordLaws
+mod CompletionLaws

@@ -14,7 +14,7 @@ use Rattle.psg_messages.specs.Turns.{due, served}
 use Rattle.psg_server.specs.declared.documents.Document.{Document}
 use Rattle.psg_server.specs.declared.methods.Notice.{Notice}
 use Rattle.psg_server.specs.declared.server.Server.{Server}
-use Rattle.psg_server.specs.Answering.{asks, asks_none, names, names_none, names_not}
+use Rattle.psg_server.specs.Answering.{completes, completes_none, asks, asks_none, names, names_none, names_not}
 use Rattle.psg_server.specs.Answering.{Gets, Out, Serves, changes, changes_none, closes, closes_none, exits, formats, formats_none, greets, hovers, hovers_none, is_passed, is_refused, is_served, open_at, open_in, opens, opens_none, shuts_down}
 use Rattle.psg_server.specs.Documents.{document_at}
 use Rattle.psg_server.specs.Fields.{address_in, changed_in, changes_in, is_empty, last_in, opened_in, whole_text}
@@ -98,6 +98,8 @@ module _ (def : Definition) (kind : Kind) where
   row address before _ old encoding documents out (formats_none id method given is none) so = so
   row address before _ old encoding documents out (hovers id method given p told is there good) so = so
   row address before _ old encoding documents out (hovers_none id method given is none) so = so
+  row address before _ old encoding documents out (completes id method given p told is there good) so = so
+  row address before _ old encoding documents out (completes_none id method given is none) so = so
   row address before _ old encoding documents out (asks id method given p ask value is there good) so = so
   row address before _ old encoding documents out (asks_none id method given ask is none) so = so
   row address before _ old encoding documents out (names id method given d r value is there says good) so = so

@@ -24,6 +24,7 @@ use Rattle.psg_server.specs.declared.server.Reply.{Reply}
 use Rattle.psg_server.specs.declared.server.Reply.TheVariants as replies
 use Rattle.psg_server.specs.declared.server.Server.{Server}
 use Rattle.psg_server.specs.Capabilities.{greeting_of}
+use Rattle.psg_server.specs.Completing.{IsCompletedIn}
 use Rattle.psg_server.specs.Diagnostics.{IsPublished, cleared_data}
 use Rattle.psg_server.specs.Documents.{Becomes, document_at}
 use Rattle.psg_server.specs.Edits.{IsFormattingOf}
@@ -105,6 +106,14 @@ module _ (def : Definition) (kind : Kind) where
         → place_in given old.documents ≡ Some p → IsToldIn def kind old.encoding p.document.text p.position told
         → Serves old (request id method given) old.encoding old.documents (sent (answer_of id told))
     hovers_none : (id : Data) (method : List ℕ) (given : Given) → call_of method ≡ Some calls.Hover
+        → place_in given old.documents ≡ None
+        → Serves old (request id method given) old.encoding old.documents (refusal (Some id) faults.WrongParams)
+    -- `completion`, at a position of a document that is open, and where there is none
+    completes : (id : Data) (method : List ℕ) (given : Given) (p : Place) (told : Data)
+        → call_of method ≡ Some calls.Completion → place_in given old.documents ≡ Some p
+        → IsCompletedIn def kind old.encoding p.document.text p.position told
+        → Serves old (request id method given) old.encoding old.documents (sent (answer_of id told))
+    completes_none : (id : Data) (method : List ℕ) (given : Given) → call_of method ≡ Some calls.Completion
         → place_in given old.documents ≡ None
         → Serves old (request id method given) old.encoding old.documents (refusal (Some id) faults.WrongParams)
     -- a question about the name at a position of a document that is open, and where there is none

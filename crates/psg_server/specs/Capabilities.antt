@@ -26,11 +26,11 @@ with_encoding encodings.Utf8 = named (codes "utf-8")
 with_encoding encodings.Utf16 = synced
 with_encoding encodings.Utf32 = named (codes "utf-32")
 
--- what the server can do, in the order of the names
+-- what the server can do, in the order of the names; of what may be put at a place nothing more is said
 abbrev pub can : Members → Data
-can encoded = object (member (codes "definitionProvider") (boolean true)
-    (member (codes "documentFormattingProvider") (boolean true)
-    (member (codes "documentHighlightProvider") (boolean true) (member (codes "hoverProvider") (boolean true) encoded))))
+can encoded = object (member (codes "completionProvider") (object no_members)
+    (member (codes "definitionProvider") (boolean true) (member (codes "documentFormattingProvider") (boolean true)
+    (member (codes "documentHighlightProvider") (boolean true) (member (codes "hoverProvider") (boolean true) encoded)))))
 
 abbrev pub capabilities_of : Encoding → Data
 capabilities_of encoding = can (with_encoding encoding)

@@ -1,6 +1,7 @@
 pub mod Answering
 pub mod Apart
 pub mod Capabilities
+pub mod Completing
 pub mod Diagnostics
 pub mod Documents
 pub mod Edits

@@ -26,6 +26,7 @@ call_of method =
     else if bytes_eq method (codes "shutdown") then Some calls.Shutdown
     else if bytes_eq method (codes "textDocument/formatting") then Some calls.Formatting
     else if bytes_eq method (codes "textDocument/hover") then Some calls.Hover
+    else if bytes_eq method (codes "textDocument/completion") then Some calls.Completion
     else if bytes_eq method (codes "textDocument/rename") then Some calls.Renaming
     else option_map (λ a. calls.Asking a) (ask_of method)
 

@@ -12,6 +12,7 @@
 #![tactic(auto)]
 
 mod capabilities;
+mod completing;
 mod diagnostics;
 mod documents;
 mod edits;

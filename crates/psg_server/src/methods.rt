@@ -29,6 +29,8 @@ pub enum Call {
     Formatting,
     /// `textDocument/hover`
     Hover,
+    /// `textDocument/completion`
+    Completion,
     /// A question about the name at a position.
     Asking(Ask),
     /// `textDocument/rename`
@@ -77,6 +79,8 @@ pub(crate) fn call_of(method: &str) -> Option<Call>
         Some(Call::Formatting)
     } else if method == "textDocument/hover" {
         Some(Call::Hover)
+    } else if method == "textDocument/completion" {
+        Some(Call::Completion)
     } else if method == "textDocument/rename" {
         Some(Call::Renaming)
     } else {

@@ -328,6 +328,10 @@ impl Server {
                 let reply = self.hover(alloc, language, kind, id, given, steps)?;
                 Ok(reply)
             }
+            Call::Completion => {
+                let reply = self.complete(alloc, language, kind, id, given, steps)?;
+                Ok(reply)
+            }
             Call::Asking(ask) => {
                 let reply = self.ask(alloc, language, kind, ask, id, given, steps)?;
                 Ok(reply)

@@ -52,7 +52,7 @@ const BODIES: &[&str] = &[
 /// What comes of them.
 const COME: &str =
     "{\"error\":{\"code\":-32002,\"message\":\"the conversation has not begun\"},\"id\":1,\"jsonrpc\":\"2.0\"}
-{\"id\":2,\"jsonrpc\":\"2.0\",\"result\":{\"capabilities\":{\"definitionProvider\":true,\"documentFormattingProvider\":true,\"documentHighlightProvider\":true,\"hoverProvider\":true,\"referencesProvider\":true,\"renameProvider\":{\"prepareProvider\":true},\"textDocumentSync\":{\"change\":1,\"openClose\":true}},\"serverInfo\":{\"name\":\"psg\"}}}
+{\"id\":2,\"jsonrpc\":\"2.0\",\"result\":{\"capabilities\":{\"completionProvider\":{},\"definitionProvider\":true,\"documentFormattingProvider\":true,\"documentHighlightProvider\":true,\"hoverProvider\":true,\"referencesProvider\":true,\"renameProvider\":{\"prepareProvider\":true},\"textDocumentSync\":{\"change\":1,\"openClose\":true}},\"serverInfo\":{\"name\":\"psg\"}}}
 {\"jsonrpc\":\"2.0\",\"method\":\"textDocument/publishDiagnostics\",\"params\":{\"diagnostics\":[{\"message\":\"x is not declared\",\"range\":{\"end\":{\"character\":1,\"line\":0},\"start\":{\"character\":0,\"line\":0}},\"severity\":2,\"source\":\"psg\"}],\"uri\":\"a\",\"version\":1}}
 {\"id\":3,\"jsonrpc\":\"2.0\",\"result\":[{\"newText\":\"x := 1\\n\",\"range\":{\"end\":{\"character\":6,\"line\":0},\"start\":{\"character\":0,\"line\":0}}}]}
 {\"jsonrpc\":\"2.0\",\"method\":\"textDocument/publishDiagnostics\",\"params\":{\"diagnostics\":[],\"uri\":\"a\",\"version\":4}}

@@ -1,0 +1,22 @@
+use Rattle.std.proofs.Common.{refl, sym, ◌∙◌, ap}
+use Rattle.std.specs.Option.{option_map}
+use Rattle.serde_json.specs.View.{view}
+use Rattle.psg_messages.specs.Messages.{given_of}
+use Rattle.psg_server.specs.Answering.{completes, completes_none}
+use Rattle.psg_server.specs.Told.{place_of}
+use Rattle.psg_server.proofs.ServeLaws.{served_as}
+use Rattle.psg_server.proofs.server.Server.complete.Goals as goal
+
+pub returns-in_ok-reply-in-Some : goal.returns-in_ok-reply-in-Some
+returns-in_ok-reply-in-Some g c = λ method is.
+    served_as c.args.language.now c.args.kind _ _ _ _ _ _ _ _ refl refl c.in_ok-reply-in-Some.ensures
+    (completes (view c.args.id.now) method (given_of c.args.given) (place_of c.in-Some.place)
+    (view c.in_ok-told-in-Some.told) is
+    (sym c.place_in.ensures ∙ ap (λ o. option_map place_of o) c.in-Some.is)
+    c.in_ok-told-in-Some.ensures)
+
+pub returns-in_ok-reply-in-None : goal.returns-in_ok-reply-in-None
+returns-in_ok-reply-in-None g c = λ method is.
+    served_as c.args.language.now c.args.kind _ _ _ _ _ _ _ _ refl refl c.in_ok-reply-in-None.ensures
+    (completes_none (view c.args.id.now) method (given_of c.args.given) is
+    (sym c.place_in.ensures ∙ ap (λ o. option_map place_of o) c.in-None.is))
