@@ -5,7 +5,8 @@ use Rattle.psg_completing.specs.declared.around.Word.{Word}
 
 -- a byte of a word: a digit, a letter, `_`, or one of a character beyond ASCII
 abbrev pub is_word : ℕ → Bool
-is_word b = (nat_le 48 b && nat_le b 57) || (nat_le 65 b && nat_le b 90) || (nat_le 97 b && nat_le b 122) || b == 95 || nat_le 128 b
+is_word b = (nat_le 48 b && nat_le b 57) || (nat_le 65 b && nat_le b 90) || (nat_le 97 b && nat_le b 122) || b == 95
+    || nat_le 128 b
 
 abbrev pub is_word_byte : Option ℕ → Bool
 is_word_byte None = false

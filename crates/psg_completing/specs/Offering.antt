@@ -1,5 +1,6 @@
 -- What is offered at a byte of a text.
-use Rattle.std.specs.Prelude.{ℕ, zero, suc, ◌≡◌, ◌==◌, ◌+◌, ◌&&◌, ◌||◌, min, nat_lt, Bool, true, false, cond, List, [], ◌∷◌}
+use Rattle.std.specs.Prelude.{ℕ, zero, suc, ◌≡◌, ◌==◌, ◌+◌, ◌&&◌, ◌||◌, min, nat_lt}
+use Rattle.std.specs.Prelude.{Bool, true, false, cond, List, [], ◌∷◌}
 use Rattle.std.specs.Prelude.{◌++◌, length, take, map, codes, eqb, slice_get, slice_range, Option, Some, None}
 use Rattle.std.specs.List.{filter, starts_with}
 use Rattle.psg_terms.specs.Names.{Name}
@@ -72,7 +73,7 @@ module _ (def : Definition) (kind : Kind) (tree : Fragment) (spot : Spot) (least
         → IsOffered op (entries_with def least op o (codes "name" ∷ [])) false
     unknown : ((o : ℕ) → op_name_of def o ≡ Some op → ⊥) → IsOffered op [] false
 
-  -- of each operator in order, and whether one has more than are told
+  -- of each operator in order, and whether one has more than are offered
   pub data AreOffered : List Name → List Entry → Bool → Type 0 where
     no_more : AreOffered [] [] false
     one_more : {op : Name} {ops : List Name} {here more : List Entry} {there left : Bool} → IsOffered op here there
@@ -92,10 +93,11 @@ abbrev pub AreOffersOf : Definition → Kind → Fragment → Spot → ℕ → L
 AreOffersOf def kind tree spot least prefix ops offers =
     AreOffered def kind tree spot least prefix ops offers.entries.items offers.more
 
--- what is offered at the spot: of the operators that the plain editor's `menu` tells, in its order
+-- what is offered at the spot: of the operators that the plain editor's `menu` lists, in its order
 abbrev pub IsOfferedAt : Definition → Kind → Fragment → Spot → ℕ → List ℕ → Offers → Type 0
 IsOfferedAt def kind tree spot least prefix offers = (told : Option Read)
-    × IsToldOf def kind tree spot menu_of words_told told × AreOffersOf def kind tree spot least prefix (lines_of told) offers
+    × IsToldOf def kind tree spot menu_of words_told told
+    × AreOffersOf def kind tree spot least prefix (lines_of told) offers
 
 -- one after the other
 pub record AreJoined (first second both : Offers) : Type 0 where
@@ -122,8 +124,8 @@ abbrev pub is_close_before : List ℕ → ℕ → Bool
 is_close_before text zero = false
 is_close_before text (suc place) = is_close_at text place
 
--- What is put before a text in place of a word, and after it. A space is where a symbol or a byte of a word is beside it,
--- so that the two do not run together.
+-- What is put before a text in place of a word, and after it. A space is where a symbol or a byte of a word is beside
+-- it, so that the two do not run together.
 abbrev pub put_before : Definition → List ℕ → Word → Side → List ℕ
 put_before def own w side = cond (is_close_before own w.from) (front def side) (before def side)
 
@@ -134,8 +136,8 @@ put_behind def own w side = cond (is_close_at own w.to) (back def side) (behind 
 abbrev pub prefix_of : List ℕ → Word → List ℕ
 prefix_of own w = cond (nat_lt w.from w.inner) [] (slice_range own w.from w.to)
 
--- What is offered at a byte of a text that has no byte order mark: for the placeholder of the first filling with which the
--- text is a program, the operators that the plain editor's `menu` tells, in its order.
+-- What is offered at a byte of a text that has no byte order mark: for the placeholder of the first filling with which
+-- the text is a program, the operators that the plain editor's `menu` lists, in its order.
 pub data IsCompleted (def : Definition) (kind : Kind) (own : List ℕ) (w : Word) (c : Completion) : Type 0 where
   none_fits : IsFirst (Fits def kind own w) (fillings def) None → c.entries.items ≡ [] → c.incomplete ≡ false
       → IsCompleted def kind own w c
@@ -145,7 +147,8 @@ pub data IsCompleted (def : Definition) (kind : Kind) (own : List ℕ) (w : Word
   offers : (f : Filling) (j : Judged) (path : Path) (least : ℕ) (told : Option Read)
       → IsFirst (Fits def kind own w) (fillings def) (Some f) → IsJudged def kind (filled def own w f) j
       → HasPlaceholder def kind (filled def own w f) (mark_byte def w f) f.phylum (tree_in j.note) path
-      → IsToldOf def kind (tree_in j.note) (spot_at path) menu_of words_told told → IsLeast def (tree_in j.note) path least
+      → IsToldOf def kind (tree_in j.note) (spot_at path) menu_of words_told told
+      → IsLeast def (tree_in j.note) path least
       → AreOffered def kind (tree_in j.note) (spot_at path) least (prefix_of own w) (lines_of told) c.entries.items
       c.incomplete → c.before ≡ put_before def own w f.side → c.behind ≡ put_behind def own w f.side
       → IsCompleted def kind own w c

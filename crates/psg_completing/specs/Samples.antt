@@ -17,8 +17,8 @@ use Rattle.psg_completing.specs.Wanted.{IsLeastUnder}
 
 -- ---- an operator with nothing in it
 
--- A slot has a placeholder, or a list without elements. Each name is the one that is given, a number is 0, and a text is
--- empty.
+-- A slot has a placeholder, or a list without elements. Each name is the one that is given, a number is 0, and a text
+-- is empty.
 abbrev pub with_sample : Definition → Name → Fragment → Item → Fragment
 with_sample def name f (items.Slot kind) = with_child f (blank def kind)
 with_sample def name f (items.Refers s) = with_name f name

@@ -141,8 +141,8 @@ fn mark_here(text: &[u8], start: usize, byte: usize) -> Option<usize>
     None
 }
 
-/// Returns the word around the byte: the longest one that the byte is in or beside, with a `?` in front of it. At a `?` with
-/// no word before it, it is the word after that. It passes the bytes of the word.
+/// Returns the word around the byte: the longest one that the byte is in or beside, with a `?` in front of it. At a `?`
+/// with no word before it, it is the word after that. It passes the bytes of the word.
 pub(crate) fn word_around(text: &[u8], byte: usize) -> Word
     requires { byte ≤ length text.now }
     ensures around { IsWordAround text.now byte result }

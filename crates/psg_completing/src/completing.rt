@@ -200,7 +200,8 @@ fn completed_by<L: Ledger>(
     requires order { target.word.from ≤ target.word.to }
     requires within { target.word.to ≤ length own.now }
     requires fitted { IsFitted language.now kind own.now target.word fit.filling fit }
-    requires first { IsFirst (Fits language.now kind own.now target.word) (all_fillings language.now) (Some fit.filling) }
+    requires first { IsFirst (Fits language.now kind own.now target.word) (all_fillings language.now)
+        (Some fit.filling) }
     ensures { IfOk result (offered.IsCompletedAt language.now kind own.now target.word target.from target.to) }
 {
     let Fitted {
@@ -266,19 +267,19 @@ fn inside(own: &[u8], byte: usize) -> usize
     own.len().min(byte)
 }
 
-/// Returns what may be put in place of the word at a byte of a text that is to be a program of the kind, with a `?` in front
-/// of the word. The word is replaced by a placeholder of each phylum in turn, alone and beside a separator. The first of
-/// these with which the text is a program counts; where there is none, and where that program passes a limit of the
-/// evaluator, there are no entries.
+/// Returns what may be put in place of the word at a byte of a text that is to be a program of the kind, with a `?` in
+/// front of the word. The word is replaced by a placeholder of each phylum in turn, alone and beside a separator. The
+/// first of these with which the text is a program counts; where there is none, and where that program passes a limit
+/// of the evaluator, there are no entries.
 ///
-/// The entries are what the plain editor's `menu` tells of that placeholder, in its order; of a wrong program that of the
-/// repaired one. An operator of which only a name that it uses is typed has an entry for each name that fits and begins
-/// with the word, at most a hundred. Each other one has one entry, in which names are `name`, numbers 0 and texts empty.
-/// Bytes are those of the whole text, with a byte order mark.
+/// The entries are what the plain editor's `menu` lists for that placeholder, in its order; of a wrong program that of
+/// the repaired one. An operator of which only a name that it uses is typed has an entry for each name that fits and
+/// begins with the word, at most a hundred. Each other one has one entry, in which names are `name`, numbers 0 and
+/// texts empty. Bytes are those of the whole text, with a byte order mark.
 ///
-/// `steps` counts the tokens and the evaluations. It fails where memory runs out. It takes a reading of the text for each
-/// placeholder that is tried, an evaluation of each node, of a wrong program the search for its blamed places, and the
-/// questions.
+/// `steps` counts the tokens and the evaluations. It fails where memory runs out. It takes a reading of the text for
+/// each placeholder that is tried, an evaluation of each node, of a wrong program the search for its blamed places, and
+/// the questions.
 pub fn completion_at<L: Ledger>(
     alloc: Global,
     language: &Language,

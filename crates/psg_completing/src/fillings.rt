@@ -1,5 +1,6 @@
 //! What is put in place of a word so that a text becomes a program.
-ghost use Rattle.std.specs.Prelude.{◌≡◌, ◌==◌, ◌≤◌, ◌++◌, ◌∷◌, [], IfOk, OnOk, drop, length, slice_get, string_bytes, take};
+ghost use Rattle.std.specs.Prelude.{◌≡◌, ◌==◌, ◌≤◌, ◌++◌, ◌∷◌, [], IfOk, OnOk, drop};
+ghost use Rattle.std.specs.Prelude.{length, slice_get, string_bytes, take};
 ghost use Rattle.psg_grammar.specs.Sound.{IsSound};
 ghost use Rattle.psg_completing.specs.Fillings as filling;
 
@@ -87,8 +88,8 @@ fn push_phylum(
     Ok(())
 }
 
-/// Returns the fillings of the definition: of each phylum, in the order of the definition, the placeholder alone, and then
-/// before and after the separator of each list of its trees.
+/// Returns the fillings of the definition: of each phylum, in the order of the definition, the placeholder alone, and
+/// then before and after the separator of each list of its trees.
 pub(crate) fn fillings(alloc: Global, definition: &Definition) -> Result<Vec<Filling>, AllocError>
     requires { IsSound definition.now }
     ensures { IfOk result (λ found. found.items ≡ filling.fillings definition.now) }

@@ -1,5 +1,6 @@
 //! The first filling with which a text is a program.
-ghost use Rattle.std.specs.Prelude.{◌≡◌, ◌↔◌, ◌<◌, ◌≤◌, IfNone, IfOk, IfSome, IsTrue, IsUtf8, List, Some, length, slice_get};
+ghost use Rattle.std.specs.Prelude.{◌≡◌, ◌↔◌, ◌<◌, ◌≤◌, IfNone, IfOk, IfSome, IsTrue};
+ghost use Rattle.std.specs.Prelude.{IsUtf8, List, Some, length, slice_get};
 ghost use Rattle.psg_class.specs.Class.{IsClass};
 ghost use Rattle.psg_class.specs.Texts.{TextTokens};
 ghost use Rattle.psg_grammar.specs.Fragments.{Fragment};
@@ -236,8 +237,8 @@ fn is_hole_at(tree: &Tree, path: &Path, phylum: u32) -> bool
     }
 }
 
-/// Returns the path of the node of the tree at the byte, if that is a placeholder of the phylum. The tokens are those of
-/// the tree.
+/// Returns the path of the node of the tree at the byte, if that is a placeholder of the phylum. The tokens are those
+/// of the tree.
 fn placeholder_at(
     alloc: Global,
     language: &Language,
@@ -293,7 +294,8 @@ fn fitted_in(
     }
 }
 
-/// Returns the program with the filling in place of the word, if the text is one then, and the placeholder is at its byte.
+/// Returns the program with the filling in place of the word, if the text is one then, and the placeholder is at its
+/// byte.
 fn fit_of<L: Ledger>(
     alloc: Global,
     language: &Language,
@@ -330,8 +332,8 @@ fn filling_at(row: &[Filling], number: usize) -> Filling
     row[number]
 }
 
-/// Returns the program with the first filling that fits in place of the word, if one fits. It takes a reading of the text
-/// for each filling up to that one.
+/// Returns the program with the first filling that fits in place of the word, if one fits. It takes a reading of the
+/// text for each filling up to that one.
 pub(crate) fn first_fit<L: Ledger>(
     alloc: Global,
     language: &Language,

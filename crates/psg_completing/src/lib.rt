@@ -5,9 +5,9 @@
 //! for entry in made.entries.as_slice() { .. }
 //! ```
 //!
-//! The word at the byte is replaced by a placeholder, and that is what is asked. No session is kept: each answer is made of
-//! the text alone, so none can be one of an older text. A wrong program is asked in its repaired program, as `psg_asking`
-//! does.
+//! The word at the byte is replaced by a placeholder, and that is what is asked. No session is kept: each answer is
+//! made of the text alone, so none can be one of an older text. A wrong program is asked in its repaired program, as
+//! `psg_asking` does.
 #![tactic(auto)]
 
 mod around;

@@ -1,5 +1,6 @@
 //! What is offered at a placeholder of a program.
-ghost use Rattle.std.specs.Prelude.{◌≡◌, ◌<◌, ◌∷◌, [], ◌++◌, IfOk, OnOk, Some, codes, false, length, map, nat_lt, slice_get};
+ghost use Rattle.std.specs.Prelude.{◌≡◌, ◌<◌, ◌∷◌, [], ◌++◌, IfOk, OnOk, Some, codes};
+ghost use Rattle.std.specs.Prelude.{false, length, map, nat_lt, slice_get};
 ghost use Rattle.std.specs.Prelude.{take};
 ghost use Rattle.std.specs.Prelude.{option_copied, option_map, string_bytes};
 ghost use Rattle.psg_asking.specs.Asked.{IsKnown};
@@ -125,7 +126,7 @@ fn names_answered(
     }
 }
 
-/// Returns the names that were told and begin so; none where none were told.
+/// Returns the names that were given and begin so; none where none were given.
 fn names_in(
     alloc: Global,
     prefix: &[u8],
@@ -264,7 +265,8 @@ fn offers_with<L: Ledger>(
         open.known.wrong (option_copied open.known.repair) }
     requires name { op_name_of open.known.program.language.now op ≡ Some name.now }
     ensures { IfOk result (offered.IsOfferedOf open.entry.known.program.language.now open.entry.known.program.kind
-        (tree_in open.entry.known.program.note.now) open.entry.spot.now open.entry.least open.entry.prefix.now name.now) }
+        (tree_in open.entry.known.program.note.now) open.entry.spot.now open.entry.least
+        open.entry.prefix.now name.now) }
 {
     let definition = open.known.program.language.definition();
     let operator = operator_of(definition, op);
@@ -286,8 +288,8 @@ fn offers_with<L: Ledger>(
     })
 }
 
-/// Returns what is offered of the operator of this name: an entry for each name that fits and begins so, where a name is
-/// all that is typed, and else one entry.
+/// Returns what is offered of the operator of this name: an entry for each name that fits and begins so, where a name
+/// is all that is typed, and else one entry.
 fn offers_of<L: Ledger>(
     alloc: Global,
     open: Open,
@@ -297,7 +299,8 @@ fn offers_of<L: Ledger>(
     requires { IsKnown open.known.program.language.now open.known.program.kind open.known.program.note.now
         open.known.wrong (option_copied open.known.repair) }
     ensures { IfOk result (offered.IsOfferedOf open.entry.known.program.language.now open.entry.known.program.kind
-        (tree_in open.entry.known.program.note.now) open.entry.spot.now open.entry.least open.entry.prefix.now name.now) }
+        (tree_in open.entry.known.program.note.now) open.entry.spot.now open.entry.least
+        open.entry.prefix.now name.now) }
 {
     let definition = open.known.program.language.definition();
     match op_named(definition, name) {
@@ -384,7 +387,7 @@ fn offers_answered<L: Ledger>(
     }
 }
 
-/// Returns what is offered of the operators that were told; nothing where none were.
+/// Returns what is offered of the operators that were given; nothing where none were.
 fn offers_told<L: Ledger>(
     alloc: Global,
     open: Open,
@@ -406,7 +409,7 @@ fn offers_told<L: Ledger>(
     }
 }
 
-/// Returns what is offered at the placeholder: what the plain editor's `menu` tells, in its order.
+/// Returns what is offered at the placeholder: what the plain editor's `menu` lists, in its order.
 pub(crate) fn offers_at<L: Ledger>(
     alloc: Global,
     open: Open,

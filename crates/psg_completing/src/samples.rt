@@ -150,9 +150,9 @@ fn is_below(operator: &Operator, least: u8) -> bool
     op_level(operator) < least
 }
 
-/// Returns the operator of the number with nothing in it, as it is written on one line where the level is wanted. A slot is
-/// written as its placeholder, a list that may be unfinished as `...`, a number as 0, a text without contents, and each
-/// name as the one that is given. It is in brackets where it binds less than the level.
+/// Returns the operator of the number with nothing in it, as it is written on one line where the level is wanted. A
+/// slot is written as its placeholder, a list that may be unfinished as `...`, a number as 0, a text without contents,
+/// and each name as the one that is given. It is in brackets where it binds less than the level.
 pub(crate) fn sample_text(
     alloc: Global,
     definition: &Definition,

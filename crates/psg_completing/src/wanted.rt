@@ -36,7 +36,7 @@ fn is_due(slot: bool, left: u32) -> bool
     slot && left == 0
 }
 
-/// Returns the place of the slot of the number among the items, if there are so many.
+/// Returns the place of the slot of the number among the items, if there are that many.
 fn slot_place(operator: &Operator, number: u32) -> Option<usize>
     ensures some { IfSome result (IsSlotOf operator.now number) }
     ensures none { IfNone result ((place : ℕ) → IsSlotOf operator.now number place → ⊥) }
@@ -54,7 +54,7 @@ fn slot_place(operator: &Operator, number: u32) -> Option<usize>
     None
 }
 
-/// Returns the least level of the slot of the number; 0 where there are not so many.
+/// Returns the least level of the slot of the number; 0 where there are fewer.
 fn least_in(operator: &Operator, number: u32) -> u8
     requires { IsLevel operator.now.level }
     ensures { IsLeastUnder number (Some operator.now) result }

@@ -1,4 +1,4 @@
--- What is put for what comes in, one frame after the other.
+-- What is put for what is read, one frame after the other.
 use Rattle.std.specs.Prelude.{ℕ, ◌≡◌, ◌++◌, ◌⊎◌, List, [], ◌∷◌, Option, None, codes, false}
 use Rattle.std.specs.Io.KnownBytes.{Consumes, IsAtEnd, Keeps, append_known}
 use Rattle.serde_json.specs.Data.{Data}
@@ -19,7 +19,7 @@ use Rattle.psg_lsp.specs.declared.ending.Ending.TheVariants as endings
 abbrev pub IsPutValue : Data → Option (List ℕ) → Option (List ℕ) → Type 0
 IsPutValue d before after = after ≡ append_known before (framed (compact_text d))
 
--- what comes of a message is put, and the server goes on
+-- what follows from a message is put, and the server goes on
 abbrev pub IsPut : Out → Option (List ℕ) → Option (List ℕ) → Type 0
 IsPut silent before after = after ≡ before
 IsPut (sent d) before after = IsPutValue d before after
@@ -40,8 +40,9 @@ lost_data = refusal_of None faults.NoJson (codes "this has no length")
 
 -- ---- frames that are taken
 
--- A frame is taken, and the server goes on: what comes of its body is put. A body that is too long changes nothing.
-pub data IsTaken (def : Definition) (kind : Kind) (old new : Server) (before after : Option (List ℕ)) : Event → Type 0 where
+-- A frame is taken, and the server goes on: what follows from its body is put. A body that is too long changes nothing.
+pub data IsTaken (def : Definition) (kind : Kind) (old new : Server) (before after : Option (List ℕ)) : Event
+    → Type 0 where
   takes_body : (bytes : List ℕ) (out : Out) → Answers def kind bytes old new out → IsPut out before after
       → IsTaken def kind old new before after (body bytes)
   takes_long : (size : ℕ) → new ≡ old → IsPutValue long_data before after
@@ -67,16 +68,19 @@ IsBroken endings.WriteFault = Unit {0}
 IsBroken endings.Memory = Unit {0}
 IsBroken endings.TooLong = ⊥
 
--- The server ends with a frame: the client says so, and nothing is put; or the frame has no length, so that no other one can
--- be found, and that is put.
-pub data Stops (def : Definition) (kind : Kind) (old : Server) (before after : Option (List ℕ)) : Event → Ending → Type 0 where
-  by_exit : (bytes : List ℕ) (new : Server) (status : ℕ) → Answers def kind bytes old new (ended status) → after ≡ before
+-- The server ends with a frame: the client says so, and nothing is put; or the frame has no length, so that no other
+-- one can be found, and that is put.
+pub data Stops (def : Definition) (kind : Kind) (old : Server) (before after : Option (List ℕ)) : Event → Ending
+    → Type 0 where
+  by_exit : (bytes : List ℕ) (new : Server) (status : ℕ) → Answers def kind bytes old new (ended status)
+      → after ≡ before
       → Stops def kind old before after (body bytes) (endings.Told status)
   by_loss : IsPutValue lost_data before after → Stops def kind old before after lost endings.ReadFault
   by_break : (event : Event) (ending : Ending) → IsBroken ending → Stops def kind old before after event ending
 
 -- it ends with one of the frames, after the ones before it
-pub record StopsWithin (def : Definition) (kind : Kind) (old : Server) (before after : Option (List ℕ)) (events : List Event)
+pub record StopsWithin (def : Definition) (kind : Kind) (old : Server) (before after : Option (List ℕ))
+    (events : List Event)
     (ending : Ending) : Type 0 where
   pub taken : List Event
   pub event : Event
@@ -87,7 +91,7 @@ pub record StopsWithin (def : Definition) (kind : Kind) (old : Server) (before a
   pub are_taken : AreTaken def kind old before taken server written
   pub stops : Stops def kind server written after event ending
 
--- the server ends with what comes of a message
+-- the server ends with what follows from a message
 abbrev pub EndsWith : Out → Option (List ℕ) → Option (List ℕ) → Ending → Type 0
 EndsWith out before after ending =
     IsBroken ending ⊎ ((status : ℕ) × (out ≡ ended status) × (after ≡ before) × (ending ≡ endings.Told status))
@@ -111,13 +115,14 @@ IsPieceTaken def kind old new rest next piece before after =
     (events : List Event) × HasRead rest piece events next × AreTaken def kind old before events new after
 
 -- the server ends with one of the frames that are whole with a piece
-abbrev pub StopsAtPiece : Definition → Kind → (old : Server) (rest : Rest) (piece : List ℕ) (before after : Option (List ℕ))
+abbrev pub StopsAtPiece : Definition → Kind
+    → (old : Server) (rest : Rest) (piece : List ℕ) (before after : Option (List ℕ))
     → Ending → Type 0
 StopsAtPiece def kind old rest piece before after ending =
     IsBroken ending ⊎ ((events : List Event) × (next : Rest) × HasRead rest piece events next
     × StopsWithin def kind old before after events ending)
 
--- a piece comes, and its frames are taken
+-- a piece is read, and its frames are taken
 pub record GoesOn (def : Definition) (kind : Kind) (old new : Place) : Type 0 where
   pub piece : List ℕ
   pub input : Consumes old.left new.left piece
@@ -125,7 +130,7 @@ pub record GoesOn (def : Definition) (kind : Kind) (old new : Place) : Type 0 wh
   pub reads : HasRead old.rest piece events new.rest
   pub taken : AreTaken def kind old.server old.written events new.server new.written
 
--- The input ends, or can't be read; or a piece comes, and the server ends with one of its frames.
+-- The input ends, or can't be read; or a piece is read, and the server ends with one of its frames.
 pub data IsOver (def : Definition) (kind : Kind) (old : Place) (left after : Option (List ℕ)) : Ending → Type 0 where
   no_piece : Consumes old.left left [] → IsAtEnd left → after ≡ old.written
       → IsOver def kind old left after (endings.Told 0)
@@ -141,7 +146,8 @@ pub data IsOver (def : Definition) (kind : Kind) (old : Place) (left after : Opt
 abbrev pub at_start : Server
 at_start = record { phase = phases.Before; encoding = encodings.Utf16; documents = [] }
 
--- The frames that were read are all taken, and the input ends, or can't be read further. Or the server ends with one of them.
+-- The frames that were read are all taken, and the input ends, or can't be read further. Or the server ends with one of
+-- them.
 pub data Ends (def : Definition) (kind : Kind) (now before after : Option (List ℕ)) (events : List Event) : Ending
     → Type 0 where
   at_end : (server : Server) → AreTaken def kind at_start before events server after → IsAtEnd now
@@ -151,8 +157,10 @@ pub data Ends (def : Definition) (kind : Kind) (now before after : Option (List 
   within : (ending : Ending) → StopsWithin def kind at_start before after events ending
       → Ends def kind now before after events ending
 
--- The bytes that were taken from the input are those of some frames, however they were cut, and the server ends with them.
-pub record HasTalked (def : Definition) (kind : Kind) (left now before after : Option (List ℕ)) (ending : Ending) : Type 0
+-- The bytes that were taken from the input are those of some frames, however they were cut, and the server ends with
+-- them.
+pub record HasTalked (def : Definition) (kind : Kind) (left now before after : Option (List ℕ))
+    (ending : Ending) : Type 0
   where
     pub bytes : List ℕ
     pub input : Consumes left now bytes

@@ -17,7 +17,9 @@ const MOST_DEFINITION_BYTES: usize = 1_048_576;
 /// What a file of a definition is: a language, or the line that says why it is refused.
 #[derive(Drop)]
 pub enum Read {
+    /// The language of the definition.
     Served(Language),
+    /// Why the definition is refused, in words.
     Refused(String),
 }
 

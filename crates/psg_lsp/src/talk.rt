@@ -12,7 +12,8 @@ ghost use Rattle.psg_protocol.specs.Frames.{body as body_event, event_of, framed
 ghost use Rattle.psg_server.specs.Answering.{Answers, Out, out_of};
 ghost use Rattle.psg_server.specs.declared.server.Server.{Server as PlainServer};
 ghost use Rattle.psg_lsp.specs.Talking.{AreTaken, EndsWith, GoesOn, IsBroken, IsOver, IsPieceTaken, IsPlainOut, IsPut};
-ghost use Rattle.psg_lsp.specs.Talking.{IsPutValue, IsTaken, Stops, StopsAtPiece, StopsWithin, Talks, long_data, place_at};
+ghost use Rattle.psg_lsp.specs.Talking.{IsPutValue, IsTaken, Stops, StopsAtPiece};
+ghost use Rattle.psg_lsp.specs.Talking.{StopsWithin, Talks, long_data, place_at};
 ghost use Rattle.psg_specimen.specs.Languages.{IsDeclaringPhylum};
 
 use crate::ending::{Ending, read_ending, write_ending};
@@ -86,7 +87,7 @@ pub fn put_refusal<O: Sink>(
     }
 }
 
-/// Puts what comes of a message. Returns the ending, if the server ends with it.
+/// Puts what follows from a message. Returns the ending, if the server ends with it.
 fn put_reply<O: Sink>(alloc: Global, reply: &Reply, out: &mut O) -> Option<Ending>
     ensures { MatchOption result (IsPlainOut (out_of reply.now)
         → IsPut (out_of reply.now) (O.written out.old) (O.written out.new))
@@ -192,7 +193,8 @@ fn take_frames<O: Sink, L: Ledger>(
     requires quiet_kind { IsDeclaringPhylum language.now kind → ⊥ }
     ensures { MatchOption result (AreTaken language.now kind server.old (O.written out.old) (map event_of frames.now)
         server.new (O.written out.new))
-        (λ e. StopsWithin language.now kind server.old (O.written out.old) (O.written out.new) (map event_of frames.now) e) }
+        (λ e.
+        StopsWithin language.now kind server.old (O.written out.old) (O.written out.new) (map event_of frames.now) e) }
 {
     for place in 0..frames.len() {
         match take_frame(alloc, language, kind, server, &frames[place], out, steps) {
@@ -219,7 +221,8 @@ fn take_piece<O: Sink, L: Ledger>(
     ensures { MatchOption result
         (IsPieceTaken language.now kind server.old server.new reader.old reader.new piece.now
         (O.written out.old) (O.written out.new))
-        (λ e. StopsAtPiece language.now kind server.old reader.old piece.now (O.written out.old) (O.written out.new) e) }
+        (λ e.
+        StopsAtPiece language.now kind server.old reader.old piece.now (O.written out.old) (O.written out.new) e) }
 {
     match reader.read(alloc, piece) {
         Ok(frames) => {
@@ -262,8 +265,8 @@ fn take_next<I: Pieces, O: Sink, L: Ledger>(
     }
 }
 
-/// Answers the frames of the input until it ends, or the client ends the conversation. The end of the input is awaited for
-/// 2^64 - 1 pieces.
+/// Answers the frames of the input until it ends, or the client ends the conversation. The end of the input is awaited
+/// for 2^64 - 1 pieces.
 pub fn talk<I: Pieces, O: Sink, L: Ledger>(
     alloc: Global,
     language: &Language,
@@ -274,7 +277,8 @@ pub fn talk<I: Pieces, O: Sink, L: Ledger>(
 ) -> Ending
     requires kind { HasKind language.now kind }
     requires quiet_kind { IsDeclaringPhylum language.now kind → ⊥ }
-    ensures { Talks language.now kind (I.left input.old) (I.left input.new) (O.written out.old) (O.written out.new) result }
+    ensures { Talks language.now kind (I.left input.old) (I.left input.new) (O.written out.old)
+        (O.written out.new) result }
 {
     let mut reader = FrameReader::new(alloc);
     let mut server = Server::new(alloc);

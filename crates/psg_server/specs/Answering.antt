@@ -28,12 +28,13 @@ use Rattle.psg_server.specs.Completing.{IsCompletedIn}
 use Rattle.psg_server.specs.Diagnostics.{IsPublished, cleared_data}
 use Rattle.psg_server.specs.Documents.{Becomes, document_at}
 use Rattle.psg_server.specs.Edits.{IsFormattingOf}
-use Rattle.psg_server.specs.Fields.{Renamed, address_in, changed_in, encoding_in, naming_in, opened_in, position_in, wants_declaring}
+use Rattle.psg_server.specs.Fields.{Renamed, address_in, changed_in, encoding_in, naming_in}
+use Rattle.psg_server.specs.Fields.{opened_in, position_in, wants_declaring}
 use Rattle.psg_server.specs.Hovering.{IsToldIn}
 use Rattle.psg_server.specs.Linking.{IsNamedOf, IsRepliedOf, IsUnnamedOf, words_of}
 use Rattle.psg_server.specs.Methods.{call_of, is_known, notice_of}
 
--- what comes of a message: nothing, a value that is sent, or the end with a status
+-- what follows from a message: nothing, a value that is sent, or the end with a status
 pub data Out : Type 0 where
   silent : Out
   sent : (value : Data) → Out
@@ -83,8 +84,8 @@ abbrev pub place_in : Given → List Document → Option Place
 place_in given documents = place_by (open_in given documents) (position_in given)
 
 module _ (def : Definition) (kind : Kind) where
-  -- What is served: the encoding and the documents then, and what comes of it. What is published of a document is made of
-  -- its text alone, so no older one can be shown.
+  -- What is served: the encoding and the documents then, and what follows from it. What is published of a document is
+  -- made of its text alone, so no older one can be shown.
   pub data Serves (old : Server) : Said → Encoding → List Document → Out → Type 0 where
     -- `initialize`
     greets : (id : Data) (method : List ℕ) (given : Given) → call_of method ≡ Some calls.Initialize
@@ -119,12 +120,14 @@ module _ (def : Definition) (kind : Kind) where
     -- a question about the name at a position of a document that is open, and where there is none
     asks : (id : Data) (method : List ℕ) (given : Given) (p : Place) (ask : Ask) (value : Data)
         → call_of method ≡ Some (calls.Asking ask) → place_in given old.documents ≡ Some p
-        → IsRepliedOf def kind old.encoding p.document.address p.document.text ask (wants_declaring given) p.position value
+        → IsRepliedOf def kind old.encoding p.document.address p.document.text ask
+        (wants_declaring given) p.position value
         → Serves old (request id method given) old.encoding old.documents (sent (answer_of id value))
     asks_none : (id : Data) (method : List ℕ) (given : Given) (ask : Ask) → call_of method ≡ Some (calls.Asking ask)
         → place_in given old.documents ≡ None
         → Serves old (request id method given) old.encoding old.documents (refusal (Some id) faults.WrongParams)
-    -- `rename`, of a document that is open, where the name gets its new name, and where it can't; and where there is none
+    -- `rename`, of a document that is open, where the name gets its new name, and where it can't; and where there is
+    -- none
     names : (id : Data) (method : List ℕ) (given : Given) (d : Document) (r : Renamed) (value : Data)
         → call_of method ≡ Some calls.Renaming → open_in given old.documents ≡ Some d → naming_in given ≡ Some r
         → IsNamedOf def kind old.encoding d.address d.text r value
@@ -144,8 +147,8 @@ module _ (def : Definition) (kind : Kind) where
         → Serves old (note method given) old.encoding documents (sent told)
     opens_none : (method : List ℕ) (given : Given) → notice_of method ≡ Some notices.Opened → opened_in given ≡ None
         → Serves old (note method given) old.encoding old.documents silent
-    -- `didChange`, of a document that is open, and of one that is not. Where the change has not the whole text, the text
-    -- is not known then.
+    -- `didChange`, of a document that is open, and of one that is not. Where the change has not the whole text, the
+    -- text is not known then.
     changes : (method : List ℕ) (given : Given) (before : Document) (documents : List Document) (told : Data)
         → notice_of method ≡ Some notices.Changed → open_in given old.documents ≡ Some before
         → Becomes before.address (Some (changed_in given before)) old.documents documents

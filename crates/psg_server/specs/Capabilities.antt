@@ -30,7 +30,8 @@ with_encoding encodings.Utf32 = named (codes "utf-32")
 abbrev pub can : Members → Data
 can encoded = object (member (codes "completionProvider") (object no_members)
     (member (codes "definitionProvider") (boolean true) (member (codes "documentFormattingProvider") (boolean true)
-    (member (codes "documentHighlightProvider") (boolean true) (member (codes "hoverProvider") (boolean true) encoded)))))
+    (member (codes "documentHighlightProvider") (boolean true)
+    (member (codes "hoverProvider") (boolean true) encoded)))))
 
 abbrev pub capabilities_of : Encoding → Data
 capabilities_of encoding = can (with_encoding encoding)

@@ -1,5 +1,6 @@
 -- What may be put in place of the word at a position of a document.
-use Rattle.std.specs.Prelude.{ℕ, ◌≡◌, ◌≤◌, ◌-◌, ◌++◌, Bool, List, [], ◌∷◌, codes, drop, length, take, Option, Some, None}
+use Rattle.std.specs.Prelude.{ℕ, ◌≡◌, ◌≤◌, ◌-◌, ◌++◌, Bool, List, [], ◌∷◌, codes}
+use Rattle.std.specs.Prelude.{drop, length, take, Option, Some, None}
 use Rattle.std.specs.Str.{IsUtf8}
 use Rattle.serde_json.specs.Data.{Data, array, boolean, null, string, object, member, no_members}
 use Rattle.serde_json.specs.View.{items_of}
@@ -19,10 +20,12 @@ abbrev pub written : Completion → Entry → List ℕ
 written c e = c.before ++ (e.text ++ c.behind)
 
 abbrev pub item_with : Entry → List ℕ → Data → Data
-item_with e filter edit = object (member (codes "detail") (string e.operator) (member (codes "filterText") (string filter)
+item_with e filter edit =
+    object (member (codes "detail") (string e.operator) (member (codes "filterText") (string filter)
     (member (codes "label") (string e.text) (member (codes "textEdit") edit no_members))))
 
--- An entry: its label is what it writes, and an editor compares the word with the word itself, so that it shows each one.
+-- An entry: its label is what it writes, and an editor compares the word with the word itself, so that it shows each
+-- one.
 abbrev pub item_data : Completion → List ℕ → Data → Entry → Data
 item_data c filter range e = item_with e filter (edit_data range (written c e))
 

@@ -1,5 +1,6 @@
 -- What is published of a document: what is found in its text, and nothing else.
-use Rattle.std.specs.Prelude.{ℕ, ℤ, ◌≡◌, ◌+◌, ◌-◌, ◌||◌, ◌&&◌, ◌==◌, Bool, true, false, List, [], ◌∷◌, length, drop, Option, Some, None}
+use Rattle.std.specs.Prelude.{ℕ, ℤ, ◌≡◌, ◌+◌, ◌-◌, ◌||◌, ◌&&◌, ◌==◌, Bool, true, false}
+use Rattle.std.specs.Prelude.{List, [], ◌∷◌, length, drop, Option, Some, None}
 use Rattle.std.specs.Prelude.{codes, min, nat_le, not, position, unwrap_or, if◌then◌else◌}
 use Rattle.serde_json.specs.Data.{Data, array, number, unsigned, string, object, member, no_members}
 use Rattle.serde_json.specs.Find.{of_integer}
@@ -26,7 +27,8 @@ severity_of grades.Note = 4
 
 -- a byte of a word: a digit, a letter, `_`, or one of a character beyond ASCII
 abbrev pub is_word : ℕ → Bool
-is_word b = (nat_le 48 b && nat_le b 57) || (nat_le 65 b && nat_le b 90) || (nat_le 97 b && nat_le b 122) || b == 95 || nat_le 128 b
+is_word b = (nat_le 48 b && nat_le b 57) || (nat_le 65 b && nat_le b 90) || (nat_le 97 b && nat_le b 122) || b == 95
+    || nat_le 128 b
 
 -- how many bytes of a word are at the beginning
 abbrev pub word_length : List ℕ → ℕ
@@ -46,7 +48,8 @@ byte_in text byte = length text - length (unmarked text) + min (length (unmarked
 
 abbrev pub diagnostic_data : Data → ℕ → List ℕ → Data
 diagnostic_data range severity message = object (member (codes "message") (string message) (member (codes "range") range
-    (member (codes "severity") (number (unsigned severity)) (member (codes "source") (string (codes "psg")) no_members))))
+    (member (codes "severity") (number (unsigned severity))
+    (member (codes "source") (string (codes "psg")) no_members))))
 
 -- what is marked from the byte on
 abbrev pub IsMarked : Encoding → List ℕ → ℕ → Data → Type 0
@@ -76,8 +79,9 @@ abbrev pub publish_data : (address : List ℕ) (version : ℤ) (diagnostics : Li
 publish_data address version diagnostics =
     note_of (codes "textDocument/publishDiagnostics") (publish_params address version diagnostics)
 
--- The note tells what is found in a text, which is to be a program of the kind.
-pub record IsReported (def : Definition) (kind : Kind) (encoding : Encoding) (address : List ℕ) (version : ℤ) (text : List ℕ)
+-- The note says what is found in a text, which is to be a program of the kind.
+pub record IsReported (def : Definition) (kind : Kind) (encoding : Encoding) (address : List ℕ) (version : ℤ)
+    (text : List ℕ)
     (told : Data) : Type 0 where
   pub judged : List ℕ
   pub limited : Bool
@@ -99,7 +103,8 @@ cleared_data address = note_of (codes "textDocument/publishDiagnostics") (cleare
 -- what is published of a text, and where the text is not known
 abbrev pub IsPublishedOf : Definition → Kind → Encoding → List ℕ → ℤ → Option (List ℕ) → Data → Type 0
 IsPublishedOf def kind encoding address version None told = told ≡ cleared_data address
-IsPublishedOf def kind encoding address version (Some text) told = IsReported def kind encoding address version text told
+IsPublishedOf def kind encoding address version (Some text) told =
+    IsReported def kind encoding address version text told
 
 -- what is published of a document
 abbrev pub IsPublished : Definition → Kind → Encoding → Document → Data → Type 0

@@ -17,8 +17,8 @@ abbrev pub AreApart : List Document → Type 0
 AreApart [] = Unit {0}
 AreApart (d ∷ documents) = (document_at d.address documents ≡ None) × AreApart documents
 
--- At the address is now this document, or none. At each other address is what was there before, and no older document is
--- kept: no two have one address where none had it.
+-- At the address is now this document, or none. At each other address is what was there before, and no older document
+-- is kept: no two have one address where none had it.
 pub record Becomes (address : List ℕ) (d : Option Document) (old new : List Document) : Type 0 where
   pub here : document_at address new ≡ d
   pub others : (other : List ℕ) → (other ≡ address → ⊥) → document_at other new ≡ document_at other old

@@ -39,9 +39,9 @@ pub record IsTail (text wanted : List ℕ) (from to until : ℕ) : Type 0 where
   pub have : HaveTail text wanted to until
   pub longest : (other stop : ℕ) → from ≤ other → from ≤ stop → HaveTail text wanted other stop → to ≤ other
 
--- A text in place of a range of the text makes it the one that is wanted. The range begins with the first line that differs.
--- It ends as early as it may then: whole lines that are the same at the end are not in it. Its ends are places where a
--- person may be, so its positions name these bytes.
+-- A text in place of a range of the text makes it the one that is wanted. The range begins with the first line that
+-- differs. It ends as early as it may then: whole lines that are the same at the end are not in it. Its ends are places
+-- where a person may be, so its positions name these bytes.
 pub record IsEdit (encoding : Encoding) (text wanted : List ℕ) (d : Data) : Type 0 where
   pub from : ℕ
   pub to : ℕ

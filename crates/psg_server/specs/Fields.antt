@@ -1,5 +1,6 @@
 -- What the parameters of a message say.
-use Rattle.std.specs.Prelude.{ℕ, ℤ, List, Bool, true, false, Option, Some, None, ◌||◌, codes, is_some, not, option_and_then, unwrap_or, if◌then◌else◌}
+use Rattle.std.specs.Prelude.{ℕ, ℤ, List, Bool, true, false, Option, Some, None, ◌||◌, codes}
+use Rattle.std.specs.Prelude.{is_some, not, option_and_then, unwrap_or, if◌then◌else◌}
 use Rattle.std.specs.Str.{bytes_eq}
 use Rattle.psg_documents.specs.declared.encoding.Encoding.{Encoding}
 use Rattle.psg_documents.specs.declared.encoding.Encoding.TheVariants as encodings

@@ -1,4 +1,4 @@
--- What is told of the node at a position of a document.
+-- What is said of the node at a position of a document.
 use Rattle.std.specs.Prelude.{ℕ, ◌≡◌, List, [], ◌∷◌, ◌++◌, map, codes, string_bytes, Option, Some, None}
 use Rattle.serde_json.specs.Data.{Data, null, string, object, member, no_members}
 use Rattle.psg_documents.specs.declared.encoding.Encoding.{Encoding}
@@ -39,8 +39,9 @@ abbrev pub IsTold : Encoding → List ℕ → Option Hover → Data → Type 0
 IsTold encoding text None d = d ≡ null
 IsTold encoding text (Some h) d = IsHoverValue encoding text h d
 
--- What is told of the node at the position: nothing where none is there, and where the text is no program.
-pub record IsToldAt (def : Definition) (kind : Kind) (encoding : Encoding) (text : List ℕ) (position : Position) (d : Data)
+-- What is said of the node at the position: nothing where none is there, and where the text is no program.
+pub record IsToldAt (def : Definition) (kind : Kind) (encoding : Encoding) (text : List ℕ)
+    (position : Position) (d : Data)
     : Type 0 where
   pub byte : ℕ
   pub is_byte : IsByteOf encoding text position.line position.column byte

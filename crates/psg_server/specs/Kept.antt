@@ -1,4 +1,4 @@
--- What becomes of a document that a note tells of.
+-- What becomes of a document that a note names.
 use Rattle.std.specs.Prelude.{ℕ, ◌≡◌, List, Some, None}
 use Rattle.serde_json.specs.Data.{Data}
 use Rattle.psg_grammar.specs.declared.types.Definition.{Definition}
@@ -21,6 +21,7 @@ pub record IsKept (def : Definition) (kind : Kind) (d : Document) (old new : Ser
 -- the document with the address is taken away where there is one, and else nothing changes
 pub data IsClosed (address : List ℕ) (old new : Server) (out : Out) : Type 0 where
   was_closed : document_at address old.documents ≡ None → new ≡ old → out ≡ silent → IsClosed address old new out
-  is_closed : (d : Document) → document_at address old.documents ≡ Some d → Becomes address None old.documents new.documents
+  is_closed : (d : Document) → document_at address old.documents ≡ Some d
+      → Becomes address None old.documents new.documents
       → new.encoding ≡ old.encoding → new.phase ≡ old.phase → out ≡ sent (cleared_data address)
       → IsClosed address old new out

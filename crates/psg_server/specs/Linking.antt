@@ -1,6 +1,7 @@
 -- What is answered of the name at a position of a document: where it is declared, where the names are that are together
 -- with it, and the edits that give them a new name.
-use Rattle.std.specs.Prelude.{ℕ, ◌≡◌, ◌-◌, ◌||◌, Bool, true, false, cond, not, List, [], ◌∷◌, length, Option, Some, None, Vec, codes}
+use Rattle.std.specs.Prelude.{ℕ, ◌≡◌, ◌-◌, ◌||◌, Bool, true, false, cond, not, List}
+use Rattle.std.specs.Prelude.{[], ◌∷◌, length, Option, Some, None, Vec, codes}
 use Rattle.std.specs.declared.alloc.Global.{Global}
 use Rattle.std.specs.declared.result.Result.TheVariants.{Ok, Err}
 use Rattle.serde_json.specs.Data.{Data, null, array, number, unsigned, string, object, member, no_members}
@@ -133,7 +134,8 @@ module _ (encoding : Encoding) (text address : List ℕ) where
   IsReply ask all (Some a) d = IsReplyOf ask all a d
 
   -- where the text is known
-  pub record IsReplied (def : Definition) (kind : Kind) (ask : Ask) (all : Bool) (at : Position) (d : Data) : Type 0 where
+  pub record IsReplied (def : Definition) (kind : Kind) (ask : Ask) (all : Bool) (at : Position)
+      (d : Data) : Type 0 where
     pub linked : Option Linked
     pub found : IsFound def kind encoding text at linked
     pub is : IsReply ask all linked d

@@ -53,7 +53,7 @@ last_word address before (s ∷ messages) = last_word address (unwrap_or (word_o
 -- ---- the law
 
 module _ (def : Definition) (kind : Kind) where
-  -- Messages come one after the other, from one server to another. Those that are served are listed.
+  -- Messages are read one after the other, from one server to another. Those that are served are listed.
   pub data Comes : Server → List Said → Server → Type 0 where
     no_more : (old : Server) → Comes old [] old
     next_served : (old between new : Server) (s : Said) (out : Out) (messages : List Said)
@@ -65,5 +65,6 @@ module _ (def : Definition) (kind : Kind) where
 
   -- A text that is known is the last one that was sent, where no documents were open before the messages.
   abbrev pub KeepsLast : Type 0
-  KeepsLast = (old new : Server) (messages : List Said) (address text : List ℕ) → old.documents ≡ [] → Comes old messages new
+  KeepsLast =
+      (old new : Server) (messages : List Said) (address text : List ℕ) → old.documents ≡ [] → Comes old messages new
       → text_at address new.documents ≡ Some text → last_word address None messages ≡ Some text

@@ -1,13 +1,14 @@
 //! What the server says of itself.
 ghost use Rattle.std.specs.Prelude.{◌≡◌, IfOk};
 ghost use Rattle.serde_json.specs.View.{view};
-ghost use Rattle.psg_server.specs.Capabilities.{can, capabilities_of, greeting_of, greeting_with, named, preparing, sync};
+ghost use Rattle.psg_server.specs.Capabilities.{can, capabilities_of, greeting_of, greeting_with};
+ghost use Rattle.psg_server.specs.Capabilities.{named, preparing, sync};
 
 use psg_documents::Encoding;
 use serde_json::{Value, json};
 use std::alloc::{AllocError, Global};
 
-/// Returns how documents are told of.
+/// Returns how documents are announced.
 fn sync_value(alloc: Global) -> Result<Value, AllocError>
     ensures { IfOk result (λ v. view v ≡ sync) }
 {

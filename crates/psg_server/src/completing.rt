@@ -1,5 +1,6 @@
 //! What may be put in place of the word at a position of a document.
-ghost use Rattle.std.specs.Prelude.{ℕ, ◌≡◌, ◌++◌, ◌≤◌, ◌-◌, IfNone, IfOk, IfSome, List, Some, drop, length, map, string_bytes, take};
+ghost use Rattle.std.specs.Prelude.{ℕ, ◌≡◌, ◌++◌, ◌≤◌, ◌-◌, IfNone, IfOk, IfSome, List};
+ghost use Rattle.std.specs.Prelude.{Some, drop, length, map, string_bytes, take};
 ghost use Rattle.serde_json.specs.View.{view};
 ghost use Rattle.psg_documents.specs.Positions.{AreStarts};
 ghost use Rattle.psg_server.specs.Completing as completed;
@@ -169,8 +170,8 @@ fn completed_at<L: Ledger>(
     Ok(value)
 }
 
-/// Returns what may be put in place of the word at the position of a document, whose text is to be a program of the kind:
-/// null where the text is not known. Fails only when out of memory.
+/// Returns what may be put in place of the word at the position of a document, whose text is to be a program of the
+/// kind: null where the text is not known. Fails only when out of memory.
 pub(crate) fn document_completion<L: Ledger>(
     alloc: Global,
     language: &Language,
@@ -212,7 +213,9 @@ impl Server {
                 let document = place.document;
                 let position = place.position;
                 let encoding = self.encoding;
-                let told = document_completion(alloc, language, kind, encoding, document, position, steps)?;
+                let told = document_completion(
+                    alloc, language, kind, encoding, document, position, steps,
+                )?;
                 let reply = answered(alloc, id, told)?;
                 Ok(reply)
             }

@@ -5,8 +5,10 @@ ghost use Rattle.serde_json.specs.View.{view};
 ghost use Rattle.psg_documents.specs.Positions.{AreStarts};
 ghost use Rattle.psg_grammar.specs.Kinds.{HasKind};
 ghost use Rattle.psg_specimen.specs.Languages.{IsDeclaringPhylum};
-ghost use Rattle.psg_server.specs.Diagnostics.{AreDiagnostics, IsDiagnostic, IsMarked, IsPublished, IsReported, byte_in, cleared_data, cleared_params};
-ghost use Rattle.psg_server.specs.Diagnostics.{diagnostic_data, is_word, marked, publish_data, publish_params, severity_of, word_length};
+ghost use Rattle.psg_server.specs.Diagnostics.{AreDiagnostics, IsDiagnostic, IsMarked, IsPublished};
+ghost use Rattle.psg_server.specs.Diagnostics.{IsReported, byte_in, cleared_data, cleared_params};
+ghost use Rattle.psg_server.specs.Diagnostics.{diagnostic_data, is_word, marked, publish_data};
+ghost use Rattle.psg_server.specs.Diagnostics.{publish_params, severity_of, word_length};
 
 use crate::documents::Document;
 use crate::fields::Told;
@@ -139,7 +141,8 @@ fn push_more(
 /// Returns the diagnostics of the report, in order.
 fn diagnostics(alloc: Global, page: &Page<'_>, report: &Report) -> Result<Vec<Value>, AllocError>
     requires { AreStarts page.now.text.now page.now.lines.now }
-    ensures { IfOk result (λ vs. AreDiagnostics page.now.encoding page.now.text.now report.now.found.items report.now.more
+    ensures { IfOk result
+        (λ vs. AreDiagnostics page.now.encoding page.now.text.now report.now.found.items report.now.more
         (map view vs.items)) }
 {
     let mut values = Vec::new(alloc);
@@ -179,7 +182,7 @@ fn publish_value(
     Ok(told)
 }
 
-/// Returns the note that tells what is found in the text of a document, which is to be a program of the kind.
+/// Returns the note that says what is found in the text of a document, which is to be a program of the kind.
 fn reported<L: Ledger>(
     alloc: Global,
     language: &Language,
@@ -222,8 +225,8 @@ pub(crate) fn cleared(alloc: Global, address: &str) -> Result<Value, AllocError>
     Ok(told)
 }
 
-/// Returns the note that tells what is found in the text of the document, which is to be a program of the kind: nothing where
-/// the text is not known. Fails only when out of memory.
+/// Returns the note that says what is found in the text of the document, which is to be a program of the kind: nothing
+/// where the text is not known. Fails only when out of memory.
 pub(crate) fn published<L: Ledger>(
     alloc: Global,
     language: &Language,

@@ -34,7 +34,7 @@ impl Model for Documents {
 }
 
 impl Documents {
-    /// Returns no documents. Takes no memory; `alloc` keeps the documents that come later.
+    /// Returns no documents. Takes no memory; `alloc` keeps the later documents.
     pub fn new(alloc: Global) -> Documents
         ensures { result ≡ [] }
     {
@@ -60,8 +60,8 @@ impl Documents {
         }
     }
 
-    /// Puts the document in place of that with its address, or behind all others where there is none. Fails only when out
-    /// of memory, and the documents are then as before. It takes a walk over the documents.
+    /// Puts the document in place of that with its address, or after all others where there is none. Fails only when
+    /// out of memory, and the documents are then as before. It takes a walk over the documents.
     pub fn put(&mut self, document: Document) -> Result<(), AllocError>
         ensures ok { OnOk result (Becomes document.address (Some document) self.old self.new) }
         ensures err { OnErr result (self.new ≡ self.old) }
@@ -105,7 +105,7 @@ fn found_in<'a>(items: &'a [Document], address: &str) -> Option<&'a Document>
     }
 }
 
-/// Puts the document in place of that with its address, or behind all others.
+/// Puts the document in place of that with its address, or after all others.
 fn put_in(items: &mut Vec<Document>, document: Document) -> Result<(), AllocError>
     ensures ok { OnOk result (Becomes document.address (Some document) items.old.items items.new.items) }
     ensures err { OnErr result (items.new.items ≡ items.old.items) }

@@ -1,5 +1,6 @@
 //! The text that a document is to have, as an edit.
-ghost use Rattle.std.specs.Prelude.{ℕ, ◌≡◌, ◌<◌, ◌≤◌, ◌+◌, ◌-◌, ◌↔◌, ◌==◌, List, IfOk, IfSome, IsTrue, None, Some, cond, drop, length};
+ghost use Rattle.std.specs.Prelude.{ℕ, ◌≡◌, ◌<◌, ◌≤◌, ◌+◌, ◌-◌, ◌↔◌, ◌==◌, List, IfOk};
+ghost use Rattle.std.specs.Prelude.{IfSome, IsTrue, None, Some, cond, drop, length};
 ghost use Rattle.std.specs.Prelude.{slice_get, slice_index, take};
 ghost use Rattle.std.specs.Str.{IsUtf8};
 ghost use Rattle.serde_json.specs.Data.{array, item, no_items, null};
@@ -28,7 +29,8 @@ use std::sync::ledger::Ledger;
 fn common_byte(text: &[u8], wanted: &[u8], place: usize) -> Option<u8>
     ensures text { IfSome result (λ b. slice_get text.now place ≡ Some b) }
     ensures wanted { IfSome result (λ b. slice_get wanted.now place ≡ Some b) }
-    ensures none { result ≡ None → (b : ℕ) → slice_get text.now place ≡ Some b → slice_get wanted.now place ≡ Some b → ⊥ }
+    ensures none { result ≡ None → (b : ℕ) → slice_get text.now place ≡ Some b
+        → slice_get wanted.now place ≡ Some b → ⊥ }
 {
     let byte = *text.get(place)?;
     let other = *wanted.get(place)?;
@@ -55,12 +57,13 @@ fn same_front(text: &[u8], wanted: &[u8]) -> usize
     start
 }
 
-/// Says whether both texts have the same byte in front of their last ones, so many, and after the place.
+/// Says whether both texts have the same byte in front of their last ones, that many, and after the place.
 fn are_alike(text: &[u8], wanted: &[u8], from: usize, size: usize) -> bool
     requires text { from + size ≤ length text.now }
     requires wanted { from + size ≤ length wanted.now }
     ensures { IsTrue result ↔ ((from + size < length text.now) × ((from + size < length wanted.now)
-        × (slice_index text.now (length text.now - size - 1) ≡ slice_index wanted.now (length wanted.now - size - 1)))) }
+        × (slice_index text.now (length text.now - size - 1)
+        ≡ slice_index wanted.now (length wanted.now - size - 1)))) }
 {
     from + size < text.len()
         && from + size < wanted.len()
@@ -75,7 +78,7 @@ fn begins_line(bytes: &[u8], place: usize) -> bool
     place == 0 || bytes[place - 1] == b'\n'
 }
 
-/// Says whether the last bytes, so many, begin with a line in both texts.
+/// Says whether the last bytes, that many, begin with a line in both texts.
 fn begin_lines(text: &[u8], wanted: &[u8], size: usize) -> bool
     requires text { size ≤ length text.now }
     requires wanted { size ≤ length wanted.now }
@@ -85,7 +88,7 @@ fn begin_lines(text: &[u8], wanted: &[u8], size: usize) -> bool
     begins_line(text, text.len() - size) && begins_line(wanted, wanted.len() - size)
 }
 
-/// Returns how many bytes are of whole lines, if so many more are.
+/// Returns how many bytes are of whole lines, if that many more are.
 fn tail_with(tail: usize, size: usize, are_lines: bool) -> usize
     ensures { result ≡ cond are_lines size tail }
 {
@@ -223,8 +226,8 @@ fn without_program(fault: &ProgramFault) -> Result<Value, AllocError>
     }
 }
 
-/// Returns what `formatting` answers for a text that is to be a program of the kind: nothing where it is none, and else the
-/// edits that make it as it is to be.
+/// Returns what `formatting` answers for a text that is to be a program of the kind: nothing where it is none, and else
+/// the edits that make it as it is to be.
 fn formatting<L: Ledger>(
     alloc: Global,
     language: &Language,
@@ -248,8 +251,8 @@ fn formatting<L: Ledger>(
     }
 }
 
-/// Returns what `formatting` answers for a document, whose text is to be a program of the kind: nothing where the text is not
-/// known. Fails only when out of memory.
+/// Returns what `formatting` answers for a document, whose text is to be a program of the kind: nothing where the text
+/// is not known. Fails only when out of memory.
 pub(crate) fn document_edits<L: Ledger>(
     alloc: Global,
     language: &Language,

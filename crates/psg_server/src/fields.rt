@@ -5,8 +5,10 @@ ghost use Rattle.std.specs.Option.{option_map};
 ghost use Rattle.serde_json.specs.Find.{as_str, get};
 ghost use Rattle.serde_json.specs.View.{items_view, view};
 ghost use Rattle.psg_messages.specs.Messages.{given_of};
-ghost use Rattle.psg_server.specs.Fields.{address_in, changes_in, document_in, encoding_in, fields_in, has_text, is_empty};
-ghost use Rattle.psg_server.specs.Fields.{is_part, is_text, last_in, last_of, offered_in, offers, opened_in, opened_text_in};
+ghost use Rattle.psg_server.specs.Fields.{address_in, changes_in, document_in, encoding_in};
+ghost use Rattle.psg_server.specs.Fields.{fields_in, has_text, is_empty};
+ghost use Rattle.psg_server.specs.Fields.{is_part, is_text, last_in, last_of, offered_in};
+ghost use Rattle.psg_server.specs.Fields.{offers, opened_in, opened_text_in};
 ghost use Rattle.psg_server.specs.Fields.{text_in, version_in, whole_in, whole_text};
 ghost use Rattle.psg_server.specs.Fields as fields;
 ghost use Rattle.psg_server.specs.Told.{document_of, naming_of};
@@ -18,15 +20,20 @@ use serde_json::Value;
 /// What `didOpen` says of a document: its address, its version and its text.
 #[derive(Clone, Copy)]
 pub struct Told<'a> {
+    /// The address of the document.
     pub address: &'a str,
+    /// Its version.
     pub version: i64,
+    /// Its text.
     pub text: &'a str,
 }
 
 /// What `rename` says: a position, and the new name of the name there.
 #[derive(Clone, Copy)]
 pub struct Naming<'a> {
+    /// The position of the name.
     pub at: Position,
+    /// The new name.
     pub name: &'a str,
 }
 
@@ -186,7 +193,8 @@ fn line_in(given: Params<'_>) -> Option<u64>
 
 /// Returns the column that the parameters name.
 fn column_in(given: Params<'_>) -> Option<u64>
-    ensures { result ≡ fields.number_in (fields.member_in (codes "character") (fields.place_of (given_of given.entry))) }
+    ensures { result
+        ≡ fields.number_in (fields.member_in (codes "character") (fields.place_of (given_of given.entry))) }
 {
     let place = place_in(given)?;
     number_in(place.get("character"))

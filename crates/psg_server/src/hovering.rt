@@ -1,4 +1,4 @@
-//! What is told of the node at a position of a document.
+//! What is said of the node at a position of a document.
 ghost use Rattle.std.specs.Prelude.{◌≡◌, ◌++◌, ◌∷◌, [], IfOk, OnOk, map, string_bytes};
 ghost use Rattle.serde_json.specs.View.{view};
 ghost use Rattle.psg_documents.specs.Positions.{AreStarts};
@@ -61,14 +61,14 @@ fn plain_text(alloc: Global, value: &str) -> Result<Value, AllocError>
     json!(in alloc; {"kind": "plaintext", "value": value})
 }
 
-/// Returns what is told of a range.
+/// Returns what is said of a range.
 fn contents(alloc: Global, range: Value, value: Value) -> Result<Value, AllocError>
     ensures { IfOk result (λ v. view v ≡ told.contents (view range) (view value)) }
 {
     json!(in alloc; {"contents": value, "range": range})
 }
 
-/// Returns what is told of the node as a value.
+/// Returns what is said of the node as a value.
 fn hover_value(alloc: Global, page: &Page<'_>, hover: &Hover) -> Result<Value, AllocError>
     requires { AreStarts page.now.text.now page.now.lines.now }
     ensures { IfOk result (λ v. IsHoverValue page.now.encoding page.now.text.now hover.now (view v)) }
@@ -82,7 +82,7 @@ fn hover_value(alloc: Global, page: &Page<'_>, hover: &Hover) -> Result<Value, A
     Ok(told)
 }
 
-/// Returns what is told of a node, if there is one.
+/// Returns what is said of a node, if there is one.
 fn told_value(alloc: Global, page: &Page<'_>, hover: &Option<Hover>) -> Result<Value, AllocError>
     requires { AreStarts page.now.text.now page.now.lines.now }
     ensures { IfOk result (λ v. IsTold page.now.encoding page.now.text.now hover.now (view v)) }
@@ -96,7 +96,7 @@ fn told_value(alloc: Global, page: &Page<'_>, hover: &Option<Hover>) -> Result<V
     }
 }
 
-/// Returns what is told of the node at the position of a text.
+/// Returns what is said of the node at the position of a text.
 fn told_at<L: Ledger>(
     alloc: Global,
     language: &Language,
@@ -122,8 +122,8 @@ fn told_at<L: Ledger>(
     Ok(value)
 }
 
-/// Returns what is told of the node at the position of a document, whose text is to be a program of the kind: nothing where
-/// no node is there, and where the text is no program or not known. Fails only when out of memory.
+/// Returns what is said of the node at the position of a document, whose text is to be a program of the kind: nothing
+/// where no node is there, and where the text is no program or not known. Fails only when out of memory.
 pub(crate) fn document_hover<L: Ledger>(
     alloc: Global,
     language: &Language,

@@ -12,8 +12,8 @@ pub fn others_stay(language: &Language)
     let _own = language.definition();
 }
 
-/// States that the text that a document has is the last one that a message sent for its address, where no document was open
-/// before the messages. The call has no cost.
+/// States that the text that a document has is the last one that a message sent for its address, where no document was
+/// open before the messages. The call has no cost.
 pub fn last_text_is_kept(language: &Language)
     ensures { (kind : PlainKind) → KeepsLast language.now kind }
 {

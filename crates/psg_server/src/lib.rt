@@ -7,7 +7,7 @@
 //! }
 //! ```
 //!
-//! A document is an address, a version and a text. What is published of it is made of its text alone, anew at each
+//! A document is an address, a version and a text. What is published of it is made of its text alone, again at each
 //! change, so that no older tree can be shown. A document is judged as a program of one kind.
 #![tactic(auto)]
 

@@ -7,8 +7,10 @@ ghost use Rattle.psg_grammar.specs.Kinds.{HasKind};
 ghost use Rattle.psg_links.specs.declared.spot.Spot.{Spot as PlainSpot};
 ghost use Rattle.psg_links.specs.Spots.{IsPage};
 ghost use Rattle.psg_server.specs.Linking as linking;
-ghost use Rattle.psg_server.specs.Linking.{AreShown, IsDeclaration, IsFound, IsList, IsNamed, IsNamedOf, IsPrepared, IsReplied};
-ghost use Rattle.psg_server.specs.Linking.{IsRepliedOf, IsReply, IsReplyOf, IsShown, IsSpotRange, IsThere, IsUnnamed, IsUnnamedOf, way_of};
+ghost use Rattle.psg_server.specs.Linking.{AreShown, IsDeclaration, IsFound, IsList, IsNamed};
+ghost use Rattle.psg_server.specs.Linking.{IsNamedOf, IsPrepared, IsReplied};
+ghost use Rattle.psg_server.specs.Linking.{IsRepliedOf, IsReply, IsReplyOf, IsShown, IsSpotRange};
+ghost use Rattle.psg_server.specs.Linking.{IsThere, IsUnnamed, IsUnnamedOf, way_of};
 ghost use Rattle.psg_server.specs.Told.{naming_of};
 
 use crate::diagnostics::byte_in;
@@ -208,7 +210,8 @@ fn list(
     spots: &[Spot],
 ) -> Result<Value, AllocError>
     requires { AreStarts sheet.now.text.now sheet.now.lines.now }
-    ensures { IfOk result (λ v. IsList sheet.now.encoding sheet.now.text.now (way_of how.entry) all spots.now (view v)) }
+    ensures { IfOk result
+        (λ v. IsList sheet.now.encoding sheet.now.text.now (way_of how.entry) all spots.now (view v)) }
 {
     let values = all_shown(alloc, sheet, how, all, spots)?;
     Ok(list_of(values))
@@ -380,8 +383,8 @@ fn text_reply<L: Ledger>(
     Ok(value)
 }
 
-/// Returns what is answered of the name at the position of the document: null where the text is not known. Fails only when
-/// out of memory. It costs a reading of the text and the links of its names.
+/// Returns what is answered of the name at the position of the document: null where the text is not known. Fails only
+/// when out of memory. It costs a reading of the text and the links of its names.
 pub(crate) fn document_reply<L: Ledger>(
     alloc: Global,
     language: &Language,

@@ -11,8 +11,11 @@ use std::alloc::{AllocError, Global};
 /// A text with its lines, and the encoding in which its columns are counted.
 #[derive(Clone, Copy)]
 pub struct Page<'a> {
+    /// How columns are counted.
     pub encoding: Encoding,
+    /// The text.
     pub text: &'a str,
+    /// Its lines.
     pub lines: &'a Lines,
 }
 

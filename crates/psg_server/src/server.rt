@@ -41,7 +41,7 @@ use serde_json::Value;
 use std::alloc::{AllocError, Global};
 use std::sync::ledger::Ledger;
 
-/// What comes of a message.
+/// What follows from a message.
 #[derive(Drop)]
 pub enum Reply {
     /// Nothing is sent.
@@ -96,7 +96,7 @@ pub(crate) fn answered(alloc: Global, id: &Value, value: Value) -> Result<Reply,
     Ok(Reply::Sent(value))
 }
 
-/// Returns the document that `didOpen` tells of.
+/// Returns the document that `didOpen` names.
 fn opened(alloc: Global, told: Told<'_>) -> Result<Document, AllocError>
     ensures { IfOk result (λ d. d ≡ document_of told.entry) }
 {
@@ -163,7 +163,7 @@ fn changed(alloc: Global, before: &Document, given: Params<'_>) -> Result<Docume
 }
 
 impl Server {
-    /// Makes a server before any message, with no documents. Takes no memory; `alloc` keeps the documents that come.
+    /// Makes a server before any message, with no documents. Takes no memory; `alloc` keeps the later documents.
     pub fn new(alloc: Global) -> Server
         ensures { result ≡ record { phase = phases.Before; encoding = encodings.Utf16; documents = [] } }
     {
@@ -392,7 +392,8 @@ impl Server {
     /// Returns the document that `didChange` names as it is then, if it is open.
     fn changed(&self, alloc: Global, given: Params<'_>) -> Result<Option<Document>, AllocError>
         ensures { IfOk result (λ o. o
-            ≡ option_map (changed_in (given_of given.entry)) (answering.open_in (given_of given.entry) self.now.documents)) }
+            ≡ option_map (changed_in (given_of given.entry))
+            (answering.open_in (given_of given.entry) self.now.documents)) }
     {
         match self.open_in(given) {
             Some(before) => {
@@ -536,7 +537,7 @@ impl Server {
         }
     }
 
-    /// Returns what comes of a message.
+    /// Returns what follows from a message.
     fn take<L: Ledger>(
         &mut self,
         alloc: Global,
@@ -565,9 +566,9 @@ impl Server {
         }
     }
 
-    /// Takes the body of the next frame, and returns what comes of it. Documents are to be programs of the kind. Fails only
-    /// when out of memory, and the server is then as before. A message with a text takes the time of a report of it, or of
-    /// its printing, and all others take a step for each byte.
+    /// Takes the body of the next frame, and returns what follows from it. Documents are to be programs of the kind.
+    /// Fails only when out of memory, and the server is then as before. A message with a text takes the time of a
+    /// report of it, or of its printing, and all others take a step for each byte.
     pub fn answer<L: Ledger>(
         &mut self,
         alloc: Global,
