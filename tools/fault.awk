@@ -235,6 +235,7 @@ function has_form(   key, whole) {
     at = 2
     if (key == "entity" && version == 2) { at = 1; return fail("in version 2 a space line, as space name : SORT,") }
     if (key == "space" && version == 1) { at = 1; return fail("in version 1 an entity line, as entity SORT,") }
+    if (key == "comment" && third) return fail("one token in quotes, as comment \"//\",")
     if (key == "sort") whole = sorts()
     else if (key == "entity") whole = sort_name()
     else if (key == "space") whole = spaces()
@@ -322,7 +323,7 @@ function tell_form() {
 
 # what each line declares
 NR == FNR {
-    if (FNR == 1) version = $0 == "psg 2" ? 2 : 1
+    if (FNR == 1) { third = $0 ~ /^psg +3$/; version = third || $0 ~ /^psg +2$/ ? 2 : 1 }
     if ($0 ~ /^#/ || $0 ~ /^$/) next
     scan($0)
     if (kind[2] == "large" || kind[2] == "small") {

@@ -8,7 +8,7 @@ ghost use Rattle.psg_grammar.specs.Kinds.{HasKind};
 ghost use Rattle.psg_session.specs.Sessions.{state_of};
 ghost use Rattle.psg_tui.specs.Pressing.{IsOpened};
 
-use psg_defread::read_definition;
+use psg_defcomment::read_commented;
 use psg_grammar::{Kind, kind_named};
 use psg_session::Session;
 use psg_specimen::{Language, accept};
@@ -70,10 +70,10 @@ fn language_of<F: Files>(alloc: Global, file: &str, files: &mut F) -> Result<Lan
     let Ok(bytes) = files.read(alloc, file, MOST_BYTES) else {
         return Err(3);
     };
-    let Ok(definition) = read_definition(alloc, bytes.as_slice()) else {
+    let Ok(defined) = read_commented(alloc, bytes.as_slice()) else {
         return Err(6);
     };
-    match accept(alloc, definition) {
+    match accept(alloc, defined.definition) {
         Ok(language) => Ok(language),
         Err(_) => Err(7),
     }

@@ -5,7 +5,7 @@ ghost use Rattle.psg_specimen.specs.Languages.{IsDeclaringPhylum};
 ghost use Rattle.psg_specimen.specs.Refusal.{Refuses};
 
 use crate::ending::{Ending, read_ending};
-use psg_defread::{ReadFault, fault_text, read_definition};
+use psg_defcomment::{FileFault, file_fault_text, read_commented};
 use psg_grammar::{Kind, kind_named};
 use psg_specimen::{AcceptFault, Language, Refused, accept, accept_text};
 use psg_world::Files;
@@ -30,11 +30,11 @@ fn told(line: Result<String, AllocError>) -> Result<Read, Ending> {
 }
 
 /// Returns the line that says why the text is no definition.
-fn fault_line(alloc: Global, fault: ReadFault) -> Result<Read, Ending> {
-    match fault {
-        ReadFault::Def(fault) => told(fault_text(alloc, &fault)),
-        ReadFault::Memory => Err(Ending::Memory),
+fn fault_line(alloc: Global, fault: FileFault) -> Result<Read, Ending> {
+    if let FileFault::Memory = fault {
+        return Err(Ending::Memory);
     }
+    told(file_fault_text(alloc, &fault))
 }
 
 /// Returns the line that says why the definition is not accepted.
@@ -47,15 +47,15 @@ fn refused_line(alloc: Global, refused: &Refused) -> Result<Read, Ending>
     told(accept_text(alloc, refused))
 }
 
-/// Returns what the text is.
+/// Returns what the text is. The token of comments is passed over: a program with comments is none here.
 fn language_of(alloc: Global, text: &[u8]) -> Result<Read, Ending>
     requires { length text.now < 2 ^ 32 }
 {
-    let definition = match read_definition(alloc, text) {
-        Ok(definition) => definition,
+    let file = match read_commented(alloc, text) {
+        Ok(file) => file,
         Err(fault) => return fault_line(alloc, fault),
     };
-    match accept(alloc, definition) {
+    match accept(alloc, file.definition) {
         Ok(language) => Ok(Read::Served(language)),
         Err(refused) => refused_line(alloc, &refused),
     }

@@ -6,7 +6,14 @@ use Rattle.psg_terms.specs.Names.{Name}
 use Rattle.psg_grammar.specs.declared.types.Definition.{Definition}
 use Rattle.psg_grammar.specs.declared.types.Kind.{Kind}
 use Rattle.psg_grammar.specs.Kinds.{kind_name_of}
-use Rattle.psg_program.specs.Formatted.{IsFirstDifference, formatted, pieces}
+use Rattle.psg_program.specs.Formatted.{IsFirstDifference, pieces}
+use Rattle.psg_grammar.specs.WellFormed.{fixed_words}
+use Rattle.psg_comments.specs.Fitting.{IsFit}
+use Rattle.psg_defcomment.specs.Plain.{named_in}
+use Rattle.psg_defcomment.specs.Reading.{AreFit, comment_of}
+use Rattle.psg_defcomment.specs.Refusals.{FileRefusal, IsSecond, named_before, named_twice, of_definition, unfit}
+use Rattle.psg_defcomment.specs.declared.fault.FileFault.{FileFault}
+use Rattle.psg_defcomment.specs.declared.lines.Named.{Named}
 use Rattle.psg_specimen.specs.Refusal.{IsAccepted as IsAcceptable}
 use Rattle.psg_specimen.proofs.Stages.{not_both}
 use Rattle.psg_langs.specs.declared.named.TheConstants.{MINI, SELF}
@@ -25,19 +32,21 @@ use Rattle.psg_run.specs.Chain.{rests}
 use Rattle.psg_run.specs.Editing.{BreaksOff, Edits, Editor, IsReplied, JustEnds, new_editor}
 use Rattle.psg_run.specs.Explaining.{Explains, no_room_to_explain, tells_why}
 use Rattle.psg_run.specs.Exporting.{Exports, GoesOnAsSelf, is_itself, is_other, no_room_to_export, tells_export}
-use Rattle.psg_run.specs.Formatting.{Formats, IsTold, TellsProgram, is_as_it_is_to_be, is_declaring, is_faulty, is_formatted}
+use Rattle.psg_run.specs.Formatting.{Formats, FormatsFile, IsTold, TellsProgram, formats_file, is_as_it_is_to_be, is_declaring, is_faulty, is_formatted, no_room_to_format}
 use Rattle.psg_run.specs.Formatting.{is_kind, is_no_program, is_not_formatted, is_unknown, most_program_bytes}
 use Rattle.psg_run.specs.Formatting.{no_room_for_program, tells_program}
 use Rattle.psg_run.specs.Framed.{framed_text}
 use Rattle.psg_run.specs.Generated.{Generates, no_room_to_tell, tells}
 use Rattle.psg_run.specs.Live.{EndsInput, IsRepliedLiveBy, Talks, TalksBy, is_at_end, is_unread_line, no_room_for_line}
-use Rattle.psg_run.specs.Linting.{IsLint, Lints, TellsLint, ending, no_room_for_lint, tells_lint}
+use Rattle.psg_run.specs.Linting.{IsLint, Lints, LintsFile, TellsLint, lints_file, no_room_for_lint, no_room_without, tells_lint}
+use Rattle.psg_comments.specs.declared.finding.Comment.{Comment}
+use Rattle.psg_run.specs.Without.{IsWithout}
 use Rattle.psg_run.specs.Outputs.{EndsWell, HasDefinition, HasFaultless, HasLayout, HasProgram, IsFaultless, IsRight, IsShort, WasRead}
 use Rattle.psg_run.specs.Promise.{check, edit, framed, live, windows, gen, layout, itself, format, check_format}
 use Rattle.psg_run.specs.Promise.{explain, lint}
-use Rattle.psg_run.specs.Reading.{Defines, IsAccepted, IsRefusalLine, Reads, is_accepted, is_long, is_read, is_refused}
-use Rattle.psg_run.specs.Reading.{is_unread, most_definition_bytes, most_script_bytes, no_definition}
-use Rattle.psg_run.specs.Reading.{no_room_for_definition, no_room_for_file, not_accepted}
+use Rattle.psg_run.specs.Reading.{Defines, IsAccepted, IsFileRefusalLine, Reads, is_accepted, is_long, is_read, is_refused}
+use Rattle.psg_run.specs.Reading.{is_unread, most_definition_bytes, most_script_bytes, no_file}
+use Rattle.psg_run.specs.Reading.{no_room_for_definition, no_room_for_file, not_acceptable}
 use Rattle.psg_run.specs.Scripts.{script_lines}
 use Rattle.psg_run.specs.Windowed.{BreaksFor, IsPlayedFor, PlaysWindows, Windowed, new_windows}
 use Rattle.psg_run.specs.Worlds.{Act, Incoming, Puts, PutsFront, World, not_put, put_failed, put_front, put_in_part}
@@ -50,9 +59,22 @@ pub one_accepted : (bytes : List ℕ) (def other : Definition) → IsAccepted by
     → other ≡ def
 one_accepted bytes def other a b = a.only other b.read.spells
 
-pub not_refused : (bytes line : List ℕ) (def : Definition) → IsAccepted bytes def → IsRefusalLine bytes line → ⊥
-not_refused bytes line def a (no_definition fault refusal is) = a.read.faultless fault refusal
-not_refused bytes line def a (not_accepted other fault read only refusal is) =
+refused_by : (bytes : List ℕ) (def : Definition) (fault : FileFault) → IsAccepted bytes def → FileRefusal bytes fault → ⊥
+refused_by bytes def _ a (of_definition fault r none) = a.read.faultless fault r
+refused_by bytes def _ a (named_before line fault s r l) = a.read.faultless fault r
+refused_by bytes def _ a (named_twice line s r) = two (named_in bytes) a.fit s
+  where
+    two : (named : List Named) → AreFit (fixed_words def) named → IsSecond named line → ⊥
+    two [] f i = i
+    two (first ∷ []) f i = i
+    two (first ∷ second ∷ rest) f i = f
+refused_by bytes def _ a (unfit named other e read never) =
+    never (subst (λ (d : Definition). IsFit (fixed_words d) named.token) (sym (a.only other read.spells))
+    (subst (AreFit (fixed_words def)) e a.fit))
+
+pub not_refused : (bytes line : List ℕ) (def : Definition) → IsAccepted bytes def → IsFileRefusalLine bytes line → ⊥
+not_refused bytes line def a (no_file fault refusal is) = refused_by bytes def fault a refusal
+not_refused bytes line def a (not_acceptable other fault read only refusal is) =
     not_both other (subst IsAcceptable (only def a.read.spells) a.accepted) fault refusal
 
 -- what is said of the files where it is known what they hold
@@ -258,63 +280,95 @@ module _ (old new : World) (sink : HasRisen old.count new.count → ⊥) where
 
   -- ---- a program file
 
-  told_well : (def : Definition) (name program : Name) (bytes : List ℕ) (checks : Bool) → IsRight def name bytes checks
+  told_well : (def : Definition) (comment : Option Name) (name program : Name) (bytes : List ℕ) (comments : List Comment)
+      (own : List ℕ) (checks : Bool) → IsRight def comment name bytes checks
+      → IsWithout (fixed_words def) comment bytes comments own
       → (kind : Kind) → kind_name_of def kind ≡ Some name → (text : List ℕ) (done : Status)
-      → IsTold def program kind bytes checks text done → IsWell done
-  told_well def name program bytes false right kind named text end (is_formatted f read) = inl refl
-  told_well def name program bytes false right kind named text end (is_faulty line column message faulty) =
-      absurd (right.faultless kind named line column message faulty)
-  told_well def name program bytes true right kind named text end (is_as_it_is_to_be f read same) = inl refl
-  told_well def name program bytes true right kind named text end (is_not_formatted f line own read differs) =
-      absurd (no_difference bytes (formatted def f) line own (right.is_formatted refl kind named f read) differs)
-  told_well def name program bytes true right kind named text end (is_no_program line column message faulty) =
-      absurd (right.faultless kind named line column message faulty)
+      → IsTold def comment program kind bytes comments own checks text done → IsWell done
+  told_well def comment name program bytes comments own false right without kind named text end
+      (is_formatted f wanted read is) = inl refl
+  told_well def comment name program bytes comments own false right without kind named text end
+      (is_faulty line column message faulty) =
+      absurd (right.faultless kind named comments own without line column message faulty)
+  told_well def comment name program bytes comments own true right without kind named text end
+      (is_as_it_is_to_be f read same) = inl refl
+  told_well def comment name program bytes comments own true right without kind named text end
+      (is_not_formatted f wanted line here read is differs) =
+      absurd (no_difference bytes wanted line here
+      (right.is_formatted refl kind named comments own without f wanted read is) differs)
+  told_well def comment name program bytes comments own true right without kind named text end
+      (is_no_program line column message faulty) =
+      absurd (right.faultless kind named comments own without line column message faulty)
 
-  tells_well : (def : Definition) (name program : Name) (bytes : List ℕ) (checks : Bool) → IsRight def name bytes checks
+  tells_well : (def : Definition) (comment : Option Name) (name program : Name) (bytes : List ℕ) (comments : List Comment)
+      (own : List ℕ) (checks : Bool) → IsRight def comment name bytes checks
+      → IsWithout (fixed_words def) comment bytes comments own
       → (kind : Kind) → kind_name_of def kind ≡ Some name → (status : Status)
-      → TellsProgram def bytes (IsTold def program kind bytes checks) old new status → IsWell status
-  tells_well def name program bytes checks right kind named status (tells_program ticks text end counted told puts) =
-      puts_well (told_well def name program bytes checks right kind named text end told) sink puts
-  tells_well def name program bytes checks right kind named status (no_room_for_program ticks counted same) = inr refl
+      → TellsProgram def own (IsTold def comment program kind bytes comments own checks) old new status → IsWell status
+  tells_well def comment name program bytes comments own checks right without kind named status
+      (tells_program ticks text end counted told puts) =
+      puts_well (told_well def comment name program bytes comments own checks right without kind named text end told) sink
+      puts
+  tells_well def comment name program bytes comments own checks right without kind named status
+      (no_room_for_program ticks counted same) = inr refl
 
-  lint_told_well : (def : Definition) (name program : Name) (bytes : List ℕ) → IsFaultless def name bytes
+  formats_file_well : (checks : Bool) (def : Definition) (comment : Option Name) (name program : Name) (bytes : List ℕ)
+      → IsRight def comment name bytes checks → (kind : Kind) → kind_name_of def kind ≡ Some name → (status : Status)
+      → FormatsFile checks def comment program kind bytes old new status → IsWell status
+  formats_file_well checks def comment name program bytes right kind named status (formats_file comments own without told) =
+      tells_well def comment name program bytes comments own checks right without kind named status told
+  formats_file_well checks def comment name program bytes right kind named status (no_room_to_format same) = inr refl
+
+  lint_told_well : (def : Definition) (comment : Option Name) (name program : Name) (bytes : List ℕ)
+      (comments : List Comment) (own : List ℕ) → IsFaultless def comment name bytes
+      → IsWithout (fixed_words def) comment bytes comments own
       → (kind : Kind) → kind_name_of def kind ≡ Some name → (text : List ℕ) (done : Status)
-      → IsLint def program kind bytes text done → IsWell done
-  lint_told_well def name program bytes right kind named text end told =
+      → IsLint def program kind own text done → IsWell done
+  lint_told_well def comment name program bytes comments own right without kind named text end told =
       inl (told.done_is ∙ ap (λ (b : Bool). cond b ends_with.Wrong ends_with.Done)
-      (right.faultless kind named told.text told.limited told.found told.more told.report))
+      (right.faultless kind named comments own without told.text told.limited told.found told.more told.report))
 
-  tells_lint_well : (def : Definition) (name program : Name) (bytes : List ℕ) → IsFaultless def name bytes
+  tells_lint_well : (def : Definition) (comment : Option Name) (name program : Name) (bytes : List ℕ)
+      (comments : List Comment) (own : List ℕ) → IsFaultless def comment name bytes
+      → IsWithout (fixed_words def) comment bytes comments own
       → (kind : Kind) → kind_name_of def kind ≡ Some name → (status : Status)
-      → TellsLint def program kind bytes old new status → IsWell status
-  tells_lint_well def name program bytes right kind named status (tells_lint ticks text end told puts) =
-      puts_well (lint_told_well def name program bytes right kind named text end told) sink puts
-  tells_lint_well def name program bytes right kind named status (no_room_for_lint ticks same) = inr refl
+      → TellsLint def program kind own old new status → IsWell status
+  tells_lint_well def comment name program bytes comments own right without kind named status (tells_lint ticks text end told puts) =
+      puts_well (lint_told_well def comment name program bytes comments own right without kind named text end told) sink puts
+  tells_lint_well def comment name program bytes comments own right without kind named status (no_room_for_lint ticks same) =
+      inr refl
 
-  lints_well : (definition name program : Name) (def : Definition) (has : HasFaultless old definition name program)
-      → IsAccepted (bytes_of has.held definition) def → WasRead old new program → (status : Status)
-      → Lints def name program old new status → IsWell status
-  lints_well definition name program def has accepted was status (is_kind kind named quiet on) =
-      reads_well has.held program most_program_bytes (TellsLint def program kind) status has.known has.short was
-      (λ ended told. tells_lint_well def name program (bytes_of has.held program) (has.right def accepted) kind named
-      ended told) on
-  lints_well definition name program def has accepted was status (is_unknown none puts) =
-      absurd ((has.right def accepted).some_kind none)
-  lints_well definition name program def has accepted was status (is_declaring kind named declares puts) =
-      absurd ((has.right def accepted).quiet kind named declares)
+  lints_file_well : (def : Definition) (comment : Option Name) (name program : Name) (bytes : List ℕ)
+      → IsFaultless def comment name bytes → (kind : Kind) → kind_name_of def kind ≡ Some name → (status : Status)
+      → LintsFile def comment program kind bytes old new status → IsWell status
+  lints_file_well def comment name program bytes right kind named status (lints_file comments own without told) =
+      tells_lint_well def comment name program bytes comments own right without kind named status told
+  lints_file_well def comment name program bytes right kind named status (no_room_without same) = inr refl
 
-  formats_well : (checks : Bool) (definition name program : Name) (def : Definition)
-      (has : HasProgram old definition name program checks) → IsAccepted (bytes_of has.held definition) def
-      → WasRead old new program → (status : Status) → Formats checks def name program old new status → IsWell status
-  formats_well checks definition name program def has accepted was status (is_kind kind named quiet on) =
-      reads_well has.held program most_program_bytes
-      (λ bytes. TellsProgram def bytes (IsTold def program kind bytes checks)) status has.known has.short was
-      (λ ended told. tells_well def name program (bytes_of has.held program) checks (has.right def accepted) kind named
-      ended told) on
-  formats_well checks definition name program def has accepted was status (is_unknown none puts) =
-      absurd ((has.right def accepted).some_kind none)
-  formats_well checks definition name program def has accepted was status (is_declaring kind named declares puts) =
-      absurd ((has.right def accepted).quiet kind named declares)
+  lints_well : (comment : Option Name) (name program : Name) (def : Definition) (held : Held)
+      → old.files.held ≡ Some held → length (bytes_of held program) ≤ most_program_bytes
+      → IsFaultless def comment name (bytes_of held program) → WasRead old new program → (status : Status)
+      → Lints def comment name program old new status → IsWell status
+  lints_well comment name program def held known short right was status (is_kind kind named quiet on) =
+      reads_well held program most_program_bytes (LintsFile def comment program kind) status known short was
+      (λ ended told. lints_file_well def comment name program (bytes_of held program) right kind named ended told) on
+  lints_well comment name program def held known short right was status (is_unknown none puts) =
+      absurd (right.some_kind none)
+  lints_well comment name program def held known short right was status (is_declaring kind named declares puts) =
+      absurd (right.quiet kind named declares)
+
+  formats_well : (checks : Bool) (comment : Option Name) (name program : Name) (def : Definition) (held : Held)
+      → old.files.held ≡ Some held → length (bytes_of held program) ≤ most_program_bytes
+      → IsRight def comment name (bytes_of held program) checks → WasRead old new program → (status : Status)
+      → Formats checks def comment name program old new status → IsWell status
+  formats_well checks comment name program def held known short right was status (is_kind kind named quiet on) =
+      reads_well held program most_program_bytes (FormatsFile checks def comment program kind) status known short was
+      (λ ended told. formats_file_well checks def comment name program (bytes_of held program) right kind named ended
+      told) on
+  formats_well checks comment name program def held known short right was status (is_unknown none puts) =
+      absurd (right.some_kind none)
+  formats_well checks comment name program def held known short right was status (is_declaring kind named declares puts) =
+      absurd (right.quiet kind named declares)
 
 -- what is known of the files is one thing
 one_held : (known : Option Held) (one other : Held) → known ≡ Some one → known ≡ Some other → one ≡ other
@@ -342,24 +396,33 @@ module _ (old new : World) (sink : HasRisen old.count new.count → ⊥) where
   -- the definition is one, and the program's file is read
   formatted_well : (checks : Bool) (d k p : Name) (has : HasDefinition old d) (program : HasProgram old d k p checks)
       → WasRead old new p → (status : Status)
-      → Defines (bytes_of has.held d) (λ def. Formats checks def k p) old new status → IsWell status
+      → Defines (bytes_of has.held d) (λ def. Formats checks def (comment_of (bytes_of has.held d)) k p) old new status
+      → IsWell status
   formatted_well checks d k p has program was status (is_accepted def accepted on) =
+      let same : has.held ≡ program.held = one_held old.files.held has.held program.held has.known program.known in
       let here : IsAccepted (bytes_of program.held d) def =
-      subst (λ (h : Held). IsAccepted (bytes_of h d) def)
-      (one_held old.files.held has.held program.held has.known program.known) accepted in
-      formats_well old new sink checks d k p def program here was status on
+      subst (λ (h : Held). IsAccepted (bytes_of h d) def) same accepted in
+      let comment : comment_of (bytes_of program.held d) ≡ comment_of (bytes_of has.held d) =
+      ap (λ (h : Held). comment_of (bytes_of h d)) (sym same) in
+      formats_well old new sink checks (comment_of (bytes_of has.held d)) k p def program.held program.known program.short
+      (subst (λ c. IsRight def c k (bytes_of program.held p) checks) comment (program.right def here)) was status on
   formatted_well checks d k p has program was status (is_refused line refusal puts) =
       absurd (not_refused (bytes_of has.held d) line has.def has.accepted refusal)
   formatted_well checks d k p has program was status (no_room_for_definition same) = inr refl
 
   -- the definition is one, and the program's file is read
   linted_well : (d k p : Name) (has : HasDefinition old d) (program : HasFaultless old d k p) → WasRead old new p
-      → (status : Status) → Defines (bytes_of has.held d) (λ def. Lints def k p) old new status → IsWell status
+      → (status : Status)
+      → Defines (bytes_of has.held d) (λ def. Lints def (comment_of (bytes_of has.held d)) k p) old new status
+      → IsWell status
   linted_well d k p has program was status (is_accepted def accepted on) =
+      let same : has.held ≡ program.held = one_held old.files.held has.held program.held has.known program.known in
       let here : IsAccepted (bytes_of program.held d) def =
-      subst (λ (h : Held). IsAccepted (bytes_of h d) def)
-      (one_held old.files.held has.held program.held has.known program.known) accepted in
-      lints_well old new sink d k p def program here was status on
+      subst (λ (h : Held). IsAccepted (bytes_of h d) def) same accepted in
+      let comment : comment_of (bytes_of program.held d) ≡ comment_of (bytes_of has.held d) =
+      ap (λ (h : Held). comment_of (bytes_of h d)) (sym same) in
+      lints_well old new sink (comment_of (bytes_of has.held d)) k p def program.held program.known program.short
+      (subst (λ c. IsFaultless def c k (bytes_of program.held p)) comment (program.right def here)) was status on
   linted_well d k p has program was status (is_refused line refusal puts) =
       absurd (not_refused (bytes_of has.held d) line has.def has.accepted refusal)
   linted_well d k p has program was status (no_room_for_definition same) = inr refl
@@ -410,11 +473,12 @@ has_ended_well (layout d s l columns) old new status run ((has, was, short, was_
 has_ended_well (itself s file) old new status run ((def, accepted, is), short, was, sink) =
     self_well old new sink s file def accepted is short was status run
 has_ended_well (format d k p) old new status run (has, was, program, was_program, sink) =
-    reads_well old new sink has.held d most_definition_bytes (λ bytes. Defines bytes (λ def. Formats false def k p)) status
-    has.known has.short was (λ ended on. formatted_well old new sink false d k p has program was_program ended on) run
+    reads_well old new sink has.held d most_definition_bytes
+    (λ bytes. Defines bytes (λ def. Formats false def (comment_of bytes) k p)) status has.known has.short was (λ ended on. formatted_well old new sink false d k p has program was_program ended on) run
 has_ended_well (check_format d k p) old new status run (has, was, program, was_program, sink) =
-    reads_well old new sink has.held d most_definition_bytes (λ bytes. Defines bytes (λ def. Formats true def k p)) status
-    has.known has.short was (λ ended on. formatted_well old new sink true d k p has program was_program ended on) run
+    reads_well old new sink has.held d most_definition_bytes
+    (λ bytes. Defines bytes (λ def. Formats true def (comment_of bytes) k p)) status has.known has.short was (λ ended on. formatted_well old new sink true d k p has program was_program ended on) run
 has_ended_well (lint d k p) old new status run (has, was, program, was_program, sink) =
-    reads_well old new sink has.held d most_definition_bytes (λ bytes. Defines bytes (λ def. Lints def k p)) status
+    reads_well old new sink has.held d most_definition_bytes
+    (λ bytes. Defines bytes (λ def. Lints def (comment_of bytes) k p)) status
     has.known has.short was (λ ended on. linted_well old new sink d k p has program was_program ended on) run

@@ -8,14 +8,14 @@ use Rattle.psg_class.specs.declared.fault.ClassFault.{ClassFault}
 use Rattle.psg_class.specs.declared.fault.ClassFault.TheVariants as classes
 use Rattle.psg_class.specs.Refusal.{fault_text as class_text, list_text, operator_text, phylum_text, refused_with}
 use Rattle.psg_specimen.specs.OneRefusal.{AreSame, IsSameClass}
-use Rattle.psg_specimen.specs.Refusal.{IsRefusal}
+use Rattle.psg_specimen.specs.Refusal.{IsRefusal, IsAccepted as IsAcceptable}
 use Rattle.psg_specimen.specs.Texts.{refusal_text}
 use Rattle.psg_specimen.specs.declared.fault.AcceptFault.{AcceptFault}
 use Rattle.psg_specimen.specs.declared.fault.AcceptFault.TheVariants as faults
 use Rattle.psg_specimen.proofs.FirstOnes.{one_refusal}
+use Rattle.psg_specimen.proofs.Stages.{not_both}
 use Rattle.psg_run.specs.Exporting.{IsCheckLine, is_faulty, is_good}
-use Rattle.psg_run.specs.Reading.{IsRefusalLine, no_definition, not_accepted}
-use Rattle.psg_run.proofs.EndingWell.{not_refused}
+use Rattle.psg_run.specs.Reading.{IsPlainlyAccepted, IsRefusalLine, no_definition, not_accepted}
 
 -- bytes have one fault
 abbrev pub FaultOnce : Type 0
@@ -46,8 +46,13 @@ refusal_once once bytes line other (not_accepted def f read only r e) (not_accep
     d ∙ ap (λ (x : Definition). refusal_text x g) same
     ∙ text_alike def g f (one_refusal def g f (subst (λ (x : Definition). IsRefusal x g) same s) r) ∙ sym e
 
+not_refused_plainly : (bytes line : List ℕ) (def : Definition) → IsPlainlyAccepted bytes def → IsRefusalLine bytes line → ⊥
+not_refused_plainly bytes line def a (no_definition fault refusal is) = a.read.faultless fault refusal
+not_refused_plainly bytes line def a (not_accepted other fault read only refusal is) =
+    not_both other (subst IsAcceptable (only def a.read.spells) a.accepted) fault refusal
+
 pub check_line_once : FaultOnce → (bytes line other : List ℕ) → IsCheckLine bytes line → IsCheckLine bytes other → other ≡ line
 check_line_once once bytes line other (is_good def a e) (is_good def' a' d) = d ∙ sym e
-check_line_once once bytes line other (is_good def a e) (is_faulty r) = absurd (not_refused bytes other def a r)
-check_line_once once bytes line other (is_faulty r) (is_good def a e) = absurd (not_refused bytes line def a r)
+check_line_once once bytes line other (is_good def a e) (is_faulty r) = absurd (not_refused_plainly bytes other def a r)
+check_line_once once bytes line other (is_faulty r) (is_good def a e) = absurd (not_refused_plainly bytes line def a r)
 check_line_once once bytes line other (is_faulty r) (is_faulty s) = refusal_once once bytes line other r s

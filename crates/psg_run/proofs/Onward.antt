@@ -11,10 +11,11 @@ use Rattle.psg_world.specs.declared.world.ReadStop.TheVariants as read_stops
 use Rattle.psg_world.specs.declared.world.WriteStop.{WriteStop}
 use Rattle.psg_world.specs.declared.world.WriteStop.TheVariants as stops
 use Rattle.psg_grammar.specs.declared.types.Definition.{Definition}
+use Rattle.psg_defcomment.specs.Reading.{comment_of}
 use Rattle.psg_run.specs.declared.status.Status.{Status}
 use Rattle.psg_run.specs.declared.status.Status.TheVariants as ends_with
 use Rattle.psg_run.specs.Endings.{read_status, write_status}
-use Rattle.psg_run.specs.Reading.{Defines, Nowhere, OnDefinition, Reads, is_accepted, is_long, is_read, is_refused, is_unread, no_room_for_definition, no_room_for_file}
+use Rattle.psg_run.specs.Reading.{Defines, Nowhere, OnCommented, OnDefinition, Reads, is_accepted, is_long, is_read, is_refused, is_unread, no_room_for_definition, no_room_for_file}
 use Rattle.psg_run.specs.Worlds.{Act, Incoming, Puts, World, not_put, put_failed, put_front, put_in_part, put_whole, seen}
 use Rattle.psg_run.proofs.Chains.{append_known-nil, took_front}
 
@@ -106,6 +107,14 @@ definition_on file Next old new status (is_read bytes are short h) = is_read byt
 definition_on file Next old new status (is_unread is) = is_unread is
 definition_on file Next old new status (is_long bytes are long is) = is_long bytes are long is
 definition_on file Next old new status (no_room_for_file is) = no_room_for_file is
+
+pub commented_on : (file : Name) (Next : Option Name → Definition → Act) (old new : World) (status : Status) → OnDefinition file (λ _. Nowhere) old new status
+    → OnCommented file Next old new status
+commented_on file Next old new status (is_read bytes are short h) =
+    is_read bytes are short (defines_on bytes (Next (comment_of bytes)) old new status h)
+commented_on file Next old new status (is_unread is) = is_unread is
+commented_on file Next old new status (is_long bytes are long is) = is_long bytes are long is
+commented_on file Next old new status (no_room_for_file is) = no_room_for_file is
 
 -- ---- one text that is put at the end
 

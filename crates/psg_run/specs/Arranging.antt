@@ -1,4 +1,4 @@
--- What `layout` reads and tells: a layout of the definition's operators, and the opened fragment arranged by it.
+-- What `layout` reads and prints: a layout of the definition's operators, and the opened fragment arranged by it.
 use Rattle.std.specs.Prelude.{ℕ, ◌≡◌, List, [], Option, Some, None, codes}
 use Rattle.psg_terms.specs.Names.{Name}
 use Rattle.psg_grammar.specs.declared.types.Definition.{Definition}
@@ -30,8 +30,8 @@ module _ (def : Definition) where
     pub faultless : (line code : ℕ) → LayoutRefusal def bytes line code → ⊥
 
   module _ (bytes : List ℕ) (Next : Layout → Act) where
-    -- The bytes are a layout, and the run goes on with it. Or it ends here: a line of them is refused, and the line that
-    -- names it is put; or memory ran out, and nothing else happened.
+    -- The bytes are a layout, and the run goes on with it. Or it ends here: a line of them is refused, and the line
+    -- that names it is put; or memory ran out, and nothing else happened.
     pub data ReadsLayout (old new : World) : Status → Type 0 where
       is_layout : {status : Status} (layout : Layout) → IsReadLayout bytes layout → Next layout old new status
           → ReadsLayout old new status
@@ -40,7 +40,7 @@ module _ (def : Definition) where
       no_room_for_layout : new ≡ old → ReadsLayout old new ends_with.Memory
 
   module _ (layout : Layout) (columns : ℕ) where
-    -- the opened fragment, arranged by the layout for so many columns; the word `none`, if nothing is opened
+    -- the opened fragment, arranged by the layout for that many columns; the word `none`, if nothing is opened
     abbrev pub arranged_text : Option Opened → List ℕ
     arranged_text None = codes "none"
     arranged_text (Some old) = (arranged_in def layout columns old.tree).text

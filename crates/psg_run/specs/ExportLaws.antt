@@ -23,7 +23,7 @@ HoldsOthers file before after =
     ⊎ ((bytes : List ℕ) × (after.held ≡ option_map (λ (held : Held). map.insert held file bytes) before.held))
 
 -- The first lines of the script were played in silence, on the language of definitions. What the files hold at the end
--- of the run is what they held after these lines, but for this one file.
+-- of the run is what they held after these lines, except this one file.
 pub record HoldsOthersSince (script file : Name) (old new : World) : Type 0 where
   pub def : Definition
   pub accepted : IsAccepted SELF.now def

@@ -1,5 +1,5 @@
--- What `self` does: a script is played on the language of definitions, and the definition that it builds is written to a
--- file.
+-- What `self` does: a script is played on the language of definitions, and the definition that it builds is written to
+-- a file.
 use Rattle.std.specs.Prelude.{ℕ, ◌≡◌, List, [], ◌++◌, Option, Some, None, codes}
 use Rattle.psg_terms.specs.Names.{Name}
 use Rattle.psg_grammar.specs.declared.types.Definition.{Definition}
@@ -17,21 +17,21 @@ use Rattle.psg_run.specs.declared.status.Status.{Status}
 use Rattle.psg_run.specs.declared.status.Status.TheVariants as ends_with
 use Rattle.psg_run.specs.Chain.{IsPlayed, Point}
 use Rattle.psg_run.specs.Editing.{BreaksOff, Editor, IsSilent, new_editor}
-use Rattle.psg_run.specs.Reading.{IsAccepted, IsRefusalLine}
+use Rattle.psg_run.specs.Reading.{IsPlainlyAccepted, IsRefusalLine}
 use Rattle.psg_run.specs.Worlds.{Act, Puts, World}
 
 -- the bytes are read as the definition, and they spell no other one
 abbrev pub IsReadOnlyAs : List ℕ → Definition → Type 0
 IsReadOnlyAs bytes def = IsReadAs bytes def × ((other : Definition) → Spells bytes other → other ≡ def)
 
--- the line that `check` writes for a file of these bytes
+-- the line that `check` writes for a file of these bytes, where it names no token of comments
 pub data IsCheckLine (bytes line : List ℕ) : Type 0 where
-  is_good : (def : Definition) → IsAccepted bytes def → line ≡ codes "accepted" → IsCheckLine bytes line
+  is_good : (def : Definition) → IsPlainlyAccepted bytes def → line ≡ codes "accepted" → IsCheckLine bytes line
   is_faulty : IsRefusalLine bytes line → IsCheckLine bytes line
 
 module _ (def : Definition) (file : Name) where
-  -- What is said of the opened fragment. Where it is a whole definition, its text is asked to be written to the file, and
-  -- the files answer once. Nothing else is asked.
+  -- What is said of the opened fragment. Where it is a whole definition, its text is asked to be written to the file,
+  -- and the files answer once. Nothing else is asked.
   pub data IsExport (opened : Option Opened) (before after : Outside) : List ℕ → Type 0 where
     nothing_opened : opened ≡ None → after ≡ before → IsExport opened before after (feed (codes "none"))
     no_lines : (old : Opened) → opened ≡ Some old → (old.kind ≡ kinds.List 0 → ⊥) → after ≡ before
@@ -43,7 +43,8 @@ module _ (def : Definition) (file : Name) where
         → IsAnswered before after (Some (keeping file (exported old.tree))) lost
         → IsExport opened before after (feed (codes "refused 18"))
     is_exported : (old : Opened) (line : List ℕ) → opened ≡ Some old → old.kind ≡ kinds.List 0 → IsComplete old.tree
-        → IsAnswered before after (Some (keeping file (exported old.tree))) stored → IsCheckLine (exported old.tree) line
+        → IsAnswered before after (Some (keeping file (exported old.tree))) stored
+        → IsCheckLine (exported old.tree) line
         → IsExport opened before after (feed (codes "exported") ++ feed line)
 
   -- That is put. Or there is no memory for it; nothing was asked of the files then.

@@ -6,8 +6,8 @@ use Rattle.psg_grammar.specs.Fragments.{Fragment}
 use Rattle.psg_program.specs.Formatted.{formatted}
 use Rattle.psg_program.specs.Programs.{IsProgram}
 
--- What is written of a program file is that program again; and it is the text that it is to be itself, so to format twice
--- is to format once.
+-- What is written of a program file is that program again; and it is the text that it is to be itself, so to format
+-- twice is to format once.
 pub record FormatsOnce (def : Definition) : Type 0 where
   pub back : (kind : Kind) (bytes : List ℕ) (f : Fragment) → IsProgram def kind bytes f
       → IsProgram def kind (formatted def f) f

@@ -10,6 +10,7 @@ pub mod Reading
 pub mod Arranging
 pub mod Exporting
 pub mod Formatting
+pub mod Without
 pub mod Linting
 pub mod Explaining
 pub mod Promise

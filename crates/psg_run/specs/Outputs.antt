@@ -12,7 +12,6 @@ use Rattle.psg_langs.specs.declared.named.TheConstants.{MINI, SELF}
 use Rattle.psg_layout.specs.declared.layout.Layout.{Layout}
 use Rattle.psg_layout.specs.Layouts.{LayoutRefusal}
 use Rattle.psg_lint.specs.Reports.{IsReport}
-use Rattle.psg_program.specs.Formatted.{formatted}
 use Rattle.psg_program.specs.Programs.{IsFaulty, IsProgram}
 use Rattle.psg_recover.specs.declared.finding.Finding.{Finding}
 use Rattle.psg_recover.specs.Findings.{has_error}
@@ -33,9 +32,13 @@ use Rattle.psg_run.specs.Arranging.{Arranges, most_layout_bytes}
 use Rattle.psg_run.specs.Chain.{Point, Runs, first_point, rests, goes}
 use Rattle.psg_run.specs.Editing.{Editor, IsReplied, new_editor}
 use Rattle.psg_run.specs.Live.{IsRepliedLive, heard, with_input}
-use Rattle.psg_run.specs.Formatting.{most_program_bytes}
+use Rattle.psg_run.specs.Formatting.{IsWanted, most_program_bytes}
 use Rattle.psg_run.specs.Promise.{Form, IsRunOf, check, edit, live, windows, gen, layout, itself, format, check_format}
 use Rattle.psg_run.specs.Promise.{explain, framed, lint}
+use Rattle.psg_run.specs.Without.{IsWithout}
+use Rattle.psg_grammar.specs.WellFormed.{fixed_words}
+use Rattle.psg_defcomment.specs.Reading.{comment_of}
+use Rattle.psg_comments.specs.declared.finding.Comment.{Comment}
 use Rattle.psg_run.specs.Reading.{IsAccepted, most_definition_bytes, most_script_bytes}
 use Rattle.psg_run.specs.Worlds.{IsFrontOf, World, with_failed_read}
 
@@ -123,15 +126,15 @@ LeavesFiles = (number : ℕ) (old new : World) (status : Status) → IsRunOf (ge
 -- ---- arranged text
 
 module _ (def : Definition) where
-  -- The text is that of tokens which read back as the opened fragment, and are the tokens of its plain text. Where nothing
-  -- is opened, it is the word `none`.
+  -- The text is that of tokens which read back as the opened fragment, and are the tokens of its plain text. Where
+  -- nothing is opened, it is the word `none`.
   pub data ReadsBackAs : Option Opened → List ℕ → Type 0 where
     of_nothing : ReadsBackAs None (codes "none")
     of_opened : (old : Opened) (puts : List Put) → SpacedReadsBack def old.tree old.kind puts
         → ReadsBackAs (Some old) (text_in puts)
 
-  -- Where the lines were played and the arranged text was put, what was put is one line feed after a text that reads back
-  -- as the fragment which is opened after the lines. The replies to the lines are not put.
+  -- Where the lines were played and the arranged text was put, what was put is one line feed after a text that reads
+  -- back as the fragment which is opened after the lines. The replies to the lines are not put.
   abbrev pub ArrangedReadsBack : Type 0
   ArrangedReadsBack = (by : Layout) (columns : ℕ) (lines : List (List ℕ)) (old new : World)
       → Arranges def by columns lines old new ends_with.Done
@@ -156,7 +159,8 @@ pub record HasDefinition (world : World) (file : Name) : Type 0 where
   pub def : Definition
   pub accepted : IsAccepted (bytes_of held file) def
 
--- the file of a layout is known, short enough, and no line of it is refused for the definition that the other file holds
+-- the file of a layout is known, short enough, and no line of it is refused for the definition that the other file
+-- holds
 pub record HasLayout (world : World) (definition rules : Name) : Type 0 where
   pub held : Held
   pub known : world.files.held ≡ Some held
@@ -164,15 +168,18 @@ pub record HasLayout (world : World) (definition rules : Name) : Type 0 where
   pub faultless : (def : Definition) → IsAccepted (bytes_of held definition) def
       → (line code : ℕ) → LayoutRefusal def (bytes_of held rules) line code → ⊥
 
--- The name is that of a kind of which a program may be, and the bytes are a program of it. Where it is asked for, they are
--- the text that they are to be.
-pub record IsRight (def : Definition) (name : Name) (bytes : List ℕ) (checks : Bool) : Type 0 where
+-- The name is that of a kind of which a program may be, and the bytes without their comments are a program of it. Where
+-- it is asked for, the bytes are the text that they are to be.
+pub record IsRight (def : Definition) (comment : Option Name) (name : Name) (bytes : List ℕ) (checks : Bool)
+    : Type 0 where
   pub some_kind : ((kind : Kind) → kind_name_of def kind ≡ Some name → ⊥) → ⊥
   pub quiet : (kind : Kind) → kind_name_of def kind ≡ Some name → IsDeclaringPhylum def kind → ⊥
-  pub faultless : (kind : Kind) → kind_name_of def kind ≡ Some name → (line column : ℕ) (message : List ℕ)
-      → IsFaulty def kind bytes line column message → ⊥
-  pub is_formatted : checks ≡ true → (kind : Kind) → kind_name_of def kind ≡ Some name → (f : Fragment)
-      → IsProgram def kind bytes f → bytes ≡ formatted def f
+  pub faultless : (kind : Kind) → kind_name_of def kind ≡ Some name → (comments : List Comment) (own : List ℕ)
+      → IsWithout (fixed_words def) comment bytes comments own → (line column : ℕ) (message : List ℕ)
+      → IsFaulty def kind own line column message → ⊥
+  pub is_formatted : checks ≡ true → (kind : Kind) → kind_name_of def kind ≡ Some name → (comments : List Comment)
+      (own : List ℕ) → IsWithout (fixed_words def) comment bytes comments own → (f : Fragment) (wanted : List ℕ)
+      → IsProgram def kind own f → IsWanted def comment bytes comments own f wanted → bytes ≡ wanted
 
 -- the file of a program is known, short enough, and right for the definition that the other file holds
 pub record HasProgram (world : World) (definition name program : Name) (checks : Bool) : Type 0 where
@@ -180,14 +187,16 @@ pub record HasProgram (world : World) (definition name program : Name) (checks :
   pub known : world.files.held ≡ Some held
   pub short : length (bytes_of held program) ≤ most_program_bytes
   pub right : (def : Definition) → IsAccepted (bytes_of held definition) def
-      → IsRight def name (bytes_of held program) checks
+      → IsRight def (comment_of (bytes_of held definition)) name (bytes_of held program) checks
 
--- The name is that of a kind of which a program may be, and no report of the bytes has an error.
-pub record IsFaultless (def : Definition) (name : Name) (bytes : List ℕ) : Type 0 where
+-- The name is that of a kind of which a program may be, and no report of the bytes without their comments has an error.
+pub record IsFaultless (def : Definition) (comment : Option Name) (name : Name) (bytes : List ℕ) : Type 0 where
   pub some_kind : ((kind : Kind) → kind_name_of def kind ≡ Some name → ⊥) → ⊥
   pub quiet : (kind : Kind) → kind_name_of def kind ≡ Some name → IsDeclaringPhylum def kind → ⊥
-  pub faultless : (kind : Kind) → kind_name_of def kind ≡ Some name → (text : List ℕ) (limited : Bool)
-      (found : List Finding) (more : Bool) → IsReport def kind bytes text limited found more → has_error found ≡ false
+  pub faultless : (kind : Kind) → kind_name_of def kind ≡ Some name → (comments : List Comment)
+      (own : List ℕ) → IsWithout (fixed_words def) comment bytes comments own
+      → (text : List ℕ) (limited : Bool) (found : List Finding)
+      (more : Bool) → IsReport def kind own text limited found more → has_error found ≡ false
 
 -- the file of a program is known, short enough, and without errors for the definition that the other file holds
 pub record HasFaultless (world : World) (definition name program : Name) : Type 0 where
@@ -195,7 +204,7 @@ pub record HasFaultless (world : World) (definition name program : Name) : Type 
   pub known : world.files.held ≡ Some held
   pub short : length (bytes_of held program) ≤ most_program_bytes
   pub right : (def : Definition) → IsAccepted (bytes_of held definition) def
-      → IsFaultless def name (bytes_of held program)
+      → IsFaultless def (comment_of (bytes_of held definition)) name (bytes_of held program)
 
 -- The run did not end at its own read of the file. A read by a command may fail.
 abbrev pub WasRead : World → World → Name → Type 0
@@ -207,9 +216,8 @@ ScriptGoesWell old new definition script =
     HasDefinition old definition × WasRead old new definition × IsShort old script most_script_bytes
     × WasRead old new script
 
--- The definition is accepted, the files are short, a layout has no fault, a program is right or no error is found in it, the
--- run's own reads of them
--- and of the input did not fail, and the sink's count has not risen.
+-- The definition is accepted, the files are short, a layout has no fault, a program is right or no error is found in
+-- it, the run's own reads of them and of the input did not fail, and the sink's count has not risen.
 abbrev pub GoesWell : Form → World → World → Type 0
 GoesWell (check d) old new = HasDefinition old d × WasRead old new d × (HasRisen old.count new.count → ⊥)
 GoesWell (edit d s) old new = ScriptGoesWell old new d s × (HasRisen old.count new.count → ⊥)
@@ -243,8 +251,8 @@ abbrev pub EndsWell : Type 0
 EndsWell = (form : Form) (old new : World) (status : Status) → IsRunOf form old new status → GoesWell form old new
     → (status ≡ ends_with.Done) ⊎ (status ≡ ends_with.Memory)
 
--- Two runs of one form on the definition, which is in this file, that ended well, over files that held the same and none
--- of whose calls failed, wrote the same and left the same in the files.
+-- Two runs of one form on the definition, which is in this file, that ended well, over files that held the same and
+-- none of whose calls failed, wrote the same and left the same in the files.
 abbrev pub HasOneRunOf : Definition → Form → Name → Type 0
 HasOneRunOf def form definition = (held : Held) (old new old' new' : World)
     → IsAccepted (bytes_of held definition) def

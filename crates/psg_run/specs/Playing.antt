@@ -24,7 +24,8 @@ last_of None = answered []
 
 -- The line was played, and its reply put, as it is written by `write`. The session was in the state s with the reply
 -- `before`, and is in the state t.
-pub record PutsReply (write : Reply → List ℕ) (def : Definition) (line : List ℕ) (s t : State) (before : Reply) (old new : World) : Type 0 where
+pub record PutsReply (write : Reply → List ℕ) (def : Definition) (line : List ℕ) (s t : State) (before : Reply)
+    (old new : World) : Type 0 where
   pub reply : Reply
   pub text : List ℕ
   pub replies : IsRepliedBy def write (point s before old) line text (point t reply new)
@@ -41,7 +42,8 @@ AreOf lines None = lines ≡ []
 AreOf lines (Some line) = lines ≡ line.now ∷ []
 
 -- The lines, one or none, were played, and the reply put.
-pub record PutsLines (write : Reply → List ℕ) (def : Definition) (lines : List (List ℕ)) (s t : State) (before : Reply) (old new : World)
+pub record PutsLines (write : Reply → List ℕ) (def : Definition) (lines : List (List ℕ)) (s t : State) (before : Reply)
+    (old new : World)
     : Type 0 where
   pub reply : Reply
   pub text : List ℕ
@@ -49,7 +51,8 @@ pub record PutsLines (write : Reply → List ℕ) (def : Definition) (lines : Li
   pub put : new.written ≡ append_known old.written text
 
 -- the run ends at the one line that these are
-pub record FinishesIn (write : Reply → List ℕ) (def : Definition) (lines : List (List ℕ)) (s : State) (before : Reply) (old new : World)
+pub record FinishesIn (write : Reply → List ℕ) (def : Definition) (lines : List (List ℕ)) (s : State) (before : Reply)
+    (old new : World)
     (status : Status) : Type 0 where
   pub line : List ℕ
   pub is_one : lines ≡ line ∷ []

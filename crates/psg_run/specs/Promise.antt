@@ -18,7 +18,7 @@ use Rattle.psg_run.specs.Linting.{Lints}
 use Rattle.psg_run.specs.Generated.{Generates}
 use Rattle.psg_run.specs.Framed.{framed_text}
 use Rattle.psg_run.specs.Live.{Talks, TalksBy}
-use Rattle.psg_run.specs.Reading.{Defines, OnDefinition, Reads, most_script_bytes}
+use Rattle.psg_run.specs.Reading.{Defines, OnCommented, OnDefinition, Reads, most_script_bytes}
 use Rattle.psg_run.specs.Scripts.{script_lines}
 use Rattle.psg_run.specs.Windowed.{PlaysWindows}
 use Rattle.psg_run.specs.Worlds.{Act, Puts, World}
@@ -77,9 +77,11 @@ IsRunOf (layout definition script rules columns) =
 IsRunOf (itself script file) =
     Defines SELF.now
     (λ def. GoesOnAsSelf def (Reads script most_script_bytes (λ bytes. Exports def file (script_lines bytes))))
-IsRunOf (format definition kind program) = OnDefinition definition (λ def. Formats false def kind program)
-IsRunOf (check_format definition kind program) = OnDefinition definition (λ def. Formats true def kind program)
-IsRunOf (lint definition kind program) = OnDefinition definition (λ def. Lints def kind program)
+IsRunOf (format definition kind program) =
+    OnCommented definition (λ comment def. Formats false def comment kind program)
+IsRunOf (check_format definition kind program) =
+    OnCommented definition (λ comment def. Formats true def comment kind program)
+IsRunOf (lint definition kind program) = OnCommented definition (λ comment def. Lints def comment kind program)
 IsRunOf (explain definition script) =
     OnDefinition definition (λ def. Reads script most_script_bytes (λ bytes. Explains def (script_lines bytes)))
 

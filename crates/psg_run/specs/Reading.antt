@@ -1,7 +1,12 @@
 -- What a run reads: files, and the definition that bytes are.
-use Rattle.std.specs.Prelude.{ℕ, ◌≡◌, ◌<◌, ◌≤◌, List, length}
+use Rattle.std.specs.Prelude.{ℕ, ◌≡◌, ◌<◌, ◌≤◌, List, Option, length}
 use Rattle.psg_terms.specs.Names.{Name}
 use Rattle.psg_grammar.specs.declared.types.Definition.{Definition}
+use Rattle.psg_grammar.specs.WellFormed.{fixed_words}
+use Rattle.psg_defcomment.specs.Plain.{named_in, plain_of}
+use Rattle.psg_defcomment.specs.Reading.{AreFit, IsCommented, comment_of}
+use Rattle.psg_defcomment.specs.Refusals.{FileRefusal, file_fault_text}
+use Rattle.psg_defcomment.specs.declared.fault.FileFault.{FileFault}
 use Rattle.psg_specimen.specs.Refusal.{IsRefusal, IsAccepted as IsAcceptable}
 use Rattle.psg_specimen.specs.Texts.{refusal_text}
 use Rattle.psg_specimen.specs.declared.fault.AcceptFault.{AcceptFault}
@@ -22,19 +27,36 @@ most_definition_bytes = 1048576
 abbrev pub most_script_bytes : ℕ
 most_script_bytes = 4194304
 
--- The bytes are read as the definition and as no other, and no condition of acceptance fails.
-pub record IsAccepted (bytes : List ℕ) (def : Definition) : Type 0 where
+-- The bytes, which name no token of comments, are read as the definition and as no other, and no condition of
+-- acceptance fails.
+pub record IsPlainlyAccepted (bytes : List ℕ) (def : Definition) : Type 0 where
   pub read : IsReadAs bytes def
   pub only : (other : Definition) → Spells bytes other → other ≡ def
   pub accepted : IsAcceptable def
 
--- The bytes are no definition, and the line names their first fault; or they are only one, which is not accepted, and
--- the line names the first condition that fails.
+-- The bytes, which name no token of comments, are no definition, and the line names their first fault; or they are only
+-- one, which is not accepted, and the line names the first condition that fails.
 pub data IsRefusalLine (bytes line : List ℕ) : Type 0 where
   no_definition : (fault : DefFault) → Refusal bytes fault → line ≡ fault_text fault → IsRefusalLine bytes line
   not_accepted : (def : Definition) (fault : AcceptFault) → IsReadAs bytes def
       → ((other : Definition) → Spells bytes other → other ≡ def) → IsRefusal def fault
       → line ≡ refusal_text def fault → IsRefusalLine bytes line
+
+-- The bytes without their lines on comments are read as the definition and as no other, the token of comments fits it,
+-- and no condition of acceptance fails.
+pub record IsAccepted (bytes : List ℕ) (def : Definition) : Type 0 where
+  pub read : IsReadAs (plain_of bytes) def
+  pub fit : AreFit (fixed_words def) (named_in bytes)
+  pub only : (other : Definition) → Spells (plain_of bytes) other → other ≡ def
+  pub accepted : IsAcceptable def
+
+-- The bytes are no definition, also without their lines on comments, and the line names their first fault; or they are
+-- only one, which is not accepted, and the line names the first condition that fails.
+pub data IsFileRefusalLine (bytes line : List ℕ) : Type 0 where
+  no_file : (fault : FileFault) → FileRefusal bytes fault → line ≡ file_fault_text fault → IsFileRefusalLine bytes line
+  not_acceptable : (def : Definition) (fault : AcceptFault) → IsCommented bytes def
+      → ((other : Definition) → Spells (plain_of bytes) other → other ≡ def) → IsRefusal def fault
+      → line ≡ refusal_text def fault → IsFileRefusalLine bytes line
 
 module _ (file : Name) (limit : ℕ) (Next : List ℕ → Act) where
   -- The file is read, and the run goes on with its bytes. Or it ends here: the read failed, and added its entry; or
@@ -53,13 +75,17 @@ module _ (bytes : List ℕ) (Next : Definition → Act) where
   pub data Defines (old new : World) : Status → Type 0 where
     is_accepted : {status : Status} (def : Definition) → IsAccepted bytes def → Next def old new status
         → Defines old new status
-    is_refused : {status : Status} (line : List ℕ) → IsRefusalLine bytes line
+    is_refused : {status : Status} (line : List ℕ) → IsFileRefusalLine bytes line
         → Puts (feed line) ends_with.DefinitionRefused old new status → Defines old new status
     no_room_for_definition : new ≡ old → Defines old new ends_with.Memory
 
 -- the file of a definition is read, and the run goes on with the definition
 abbrev pub OnDefinition : Name → (Definition → Act) → Act
 OnDefinition file Next = Reads file most_definition_bytes (λ bytes. Defines bytes Next)
+
+-- the same, and it goes on with the token of comments too, if the file names one
+abbrev pub OnCommented : Name → (Option Name → Definition → Act) → Act
+OnCommented file Next = Reads file most_definition_bytes (λ bytes. Defines bytes (Next (comment_of bytes)))
 
 -- A run goes on with nothing: what a call does that ends here, whatever the run would go on with.
 abbrev pub Nowhere : Act

@@ -6,7 +6,8 @@ use Rattle.psg_run.specs.declared.framing.Framing.TheVariants as framings
 use Rattle.psg_run.specs.declared.words.Form.{Form as Found}
 use Rattle.psg_run.specs.declared.words.Form.TheVariants.{Check, Edit, Live, Windows, Gen, Layout, Itself, Format, Lint}
 use Rattle.psg_run.specs.declared.words.Form.TheVariants.{Explain}
-use Rattle.psg_run.specs.Promise.{Form, IsForm, check, edit, live, windows, gen, layout, itself, format, check_format, lint}
+use Rattle.psg_run.specs.Promise.{Form, IsForm, check, edit, live, windows, gen}
+use Rattle.psg_run.specs.Promise.{layout, itself, format, check_format, lint}
 use Rattle.psg_run.specs.Promise.{explain, framed}
 
 -- `format`, with the word `--check` or without

@@ -6,7 +6,8 @@ ghost use Rattle.psg_grammar.specs.declared.types.Definition.{Definition as Plai
 ghost use Rattle.psg_grammar.specs.declared.types.Kind.{Kind};
 ghost use Rattle.psg_layout.specs.Arranged.{arranged_in};
 ghost use Rattle.psg_layout.specs.Layouts.{IsLayoutFault};
-ghost use Rattle.psg_run.specs.Arranging.{Arranges, ArrangesBy, IsReadLayout, ReadsLayout, arranged_text as arranged_text_of};
+ghost use Rattle.psg_run.specs.Arranging.{Arranges, ArrangesBy, IsReadLayout, ReadsLayout};
+ghost use Rattle.psg_run.specs.Arranging.{arranged_text as arranged_text_of};
 ghost use Rattle.psg_run.specs.Reading.{Nowhere};
 ghost use Rattle.psg_run.specs.Scripts.{script_lines};
 ghost use Rattle.psg_run.specs.Worlds.{Incoming, seen};
@@ -44,8 +45,8 @@ fn end_fault<O: Sink>(alloc: Global, fault: LayoutFault, out: &mut O) -> Status
     put_line(alloc, out, text.as_str(), Status::LayoutRefused)
 }
 
-/// Returns the layout that the bytes are, for the language's operators. If they are none, the line of the first fault is
-/// put, and the status says how that ended.
+/// Returns the layout that the bytes are, for the language's operators. If they are none, the line of the first fault
+/// is put, and the status says how that ended.
 fn layout_of<O: Sink>(
     alloc: Global,
     language: &Language,
@@ -66,7 +67,7 @@ fn layout_of<O: Sink>(
     }
 }
 
-/// Writes the tree, arranged by the layout for so many columns, with a line feed.
+/// Writes the tree, arranged by the layout for that many columns, with a line feed.
 fn tree_text(
     alloc: Global,
     definition: &Definition,
@@ -84,8 +85,8 @@ fn tree_text(
     Ok(text)
 }
 
-/// Writes the opened fragment, arranged by the layout for so many columns, with a line feed; the line `none`, if nothing
-/// is opened.
+/// Writes the opened fragment, arranged by the layout for that many columns, with a line feed; the line `none`, if
+/// nothing is opened.
 fn arranged(
     alloc: Global,
     session: &Session,
@@ -141,7 +142,7 @@ fn tell<F: Files, O: Sink, L: Ledger>(
 }
 
 /// Reads the layout from its file, plays the script on a new session of the language, and puts what is opened then,
-/// arranged for so many columns. The order of tests is: the layout is read, its length, its lines, then those of the
+/// arranged for that many columns. The order of tests is: the layout is read, its length, its lines, then those of the
 /// script.
 pub fn arrange_by<F: Files, O: Sink, L: Ledger>(
     alloc: Global,

@@ -189,8 +189,8 @@ fn report<F: Files>(
     export_to(alloc, session.language(), tree, file, files)
 }
 
-/// Plays the script on a new session of the language, writes what is opened then to the file, puts what is said of that,
-/// and returns how the run ended.
+/// Plays the script on a new session of the language, writes what is opened then to the file, puts what is said of
+/// that, and returns how the run ended.
 fn tell<F: Files, O: Sink, L: Ledger>(
     alloc: Global,
     language: Language,
@@ -246,9 +246,9 @@ fn export_file<F: Files, O: Sink, L: Ledger>(
     tell(alloc, language, bytes.as_slice(), file, files, out, steps)
 }
 
-/// Plays the script on the language of definitions, writes the definition that is opened then to the file, and puts what
-/// is said of that. The order of tests is: the language is a definition, it is accepted, it is the one that is meant, the
-/// script is read, its length, then its lines.
+/// Plays the script on the language of definitions, writes the definition that is opened then to the file, and puts
+/// what is said of that. The order of tests is: the language is a definition, it is accepted, it is the one that is
+/// meant, the script is read, its length, then its lines.
 pub fn export_self<F: Files, O: Sink, L: Ledger>(
     alloc: Global,
     script: &str,

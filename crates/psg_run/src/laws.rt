@@ -10,7 +10,7 @@ ghost use Rattle.psg_run.specs.ExportLaws.{HasOneExport, WritesNoOther};
 ghost use Rattle.psg_run.specs.FormatLaws.{FormatsOnce};
 ghost use Rattle.psg_run.specs.Outputs.{ArrangedReadsBack, EndsWell, HasOneOutput, HasOneRun, HasSomeOutput};
 ghost use Rattle.psg_run.specs.Outputs.{KeepsForms, LeavesFiles, RepliesAlike};
-ghost use Rattle.psg_run.specs.Reading.{IsAccepted as IsAcceptedText, IsRefusalLine};
+ghost use Rattle.psg_run.specs.Reading.{IsAccepted as IsAcceptedText, IsFileRefusalLine};
 ghost use Rattle.psg_run.specs.WindowLaws.{HasOneWindowOutput, HasSomeWindowOutput};
 ghost use Rattle.psg_run.specs.WindowLaws.{RefusalsMoveNothing, WindowsArePlain, WindowsStandAtNodes};
 ghost use Rattle.psg_specimen.specs.Refusal.{IsAccepted};
@@ -48,7 +48,8 @@ pub fn forms_are_kept(definition: &Definition)
 pub fn one_definition()
     ensures one { (bytes : List ℕ) (def other : Plain) → IsAcceptedText bytes def → IsAcceptedText bytes other
         → other ≡ def }
-    ensures not_both { (bytes line : List ℕ) (def : Plain) → IsAcceptedText bytes def → IsRefusalLine bytes line → ⊥ }
+    ensures not_both { (bytes line : List ℕ) (def : Plain) → IsAcceptedText bytes def
+        → IsFileRefusalLine bytes line → ⊥ }
 {}
 
 /// States that a run for which nothing goes wrong outside ends well, or is out of memory: its definition is accepted,
@@ -141,8 +142,8 @@ pub fn some_window_output(definition: &Definition)
     ensures { HasSomeWindowOutput definition.now }
 {}
 
-/// States that what `format` writes of a program file is that program again, and is as it is to be itself. So nothing is
-/// lost, and to format twice is to format once. The call has no cost.
+/// States that what `format` writes of a program file is that program again, and is as it is to be itself. So nothing
+/// is lost, and to format twice is to format once. The call has no cost.
 pub fn formats_once(definition: &Definition)
     requires sound { IsSound definition.now }
     requires words { AllByRecursion IsFixedWord (fixed_words definition.now) }

@@ -1,10 +1,12 @@
 //! What is found in a program file.
 ghost use Rattle.std.specs.Prelude.{◌≡◌, IfOk, string_bytes};
+ghost use Rattle.psg_defcomment.specs.Reading.{IsCommentOf};
 ghost use Rattle.psg_grammar.specs.Kinds.{HasKind};
+ghost use Rattle.psg_grammar.specs.WellFormed.{fixed_words};
 ghost use Rattle.psg_recover.specs.Findings.{has_error as has_error_of};
 ghost use Rattle.psg_specimen.specs.Languages.{IsDeclaringPhylum};
 ghost use Rattle.psg_run.specs.Formatting.{most_program_bytes};
-ghost use Rattle.psg_run.specs.Linting.{IsLint, Lints, TellsLint, ending as ending_of};
+ghost use Rattle.psg_run.specs.Linting.{IsLint, Lints, LintsFile, TellsLint, ending as ending_of};
 ghost use Rattle.psg_run.specs.Promise.{IsRunOf, lint as lint_form};
 ghost use Rattle.psg_run.specs.Reading.{Reads};
 ghost use Rattle.psg_run.specs.Worlds.{Incoming, seen};
@@ -12,8 +14,9 @@ ghost use Rattle.psg_session.specs.Exchanges.{Outside};
 
 use crate::formatting::{kind_of, put_text};
 use crate::limits::MOST_PROGRAM_BYTES;
-use crate::source::{read_language, read_within};
+use crate::source::{Defined, read_defined, read_within};
 use crate::status::Status;
+use crate::without::without_comments;
 use psg_grammar::Kind;
 use psg_lint::{Finding, Grade, Report, lint, report_text};
 use psg_specimen::Language;
@@ -22,7 +25,7 @@ use psg_world::{Files, Sink};
 use std::alloc::{AllocError, Global};
 use std::sync::ledger::Ledger;
 
-/// What is told of a program file, and how the run ends where that is put whole.
+/// What is said of a program file, and how the run ends where that is put whole.
 #[derive(Drop)]
 struct Told {
     text: String,
@@ -88,19 +91,53 @@ fn tell<O: Sink, L: Ledger>(
     }
 }
 
+/// Puts what is found in the bytes of the file without their comments, and returns how that ended.
+fn tell_without<O: Sink, L: Ledger>(
+    alloc: Global,
+    defined: &Defined,
+    kind: Kind,
+    file: &str,
+    bytes: &[u8],
+    out: &mut O,
+    steps: &mut Steps<L>,
+) -> Status
+    requires fit { IsCommentOf (fixed_words defined.now.language) defined.now.comment }
+    requires kind { HasKind defined.now.language kind }
+    requires quiet_kind { IsDeclaringPhylum defined.now.language kind → ⊥ }
+    ensures { (files : Outside) (input : Incoming)
+        → LintsFile defined.now.language defined.now.comment file.now kind bytes.now
+        (seen files.held files.entries input steps.old (O.written out.old) (O.faults out.old))
+        (seen files.held files.entries input steps.new (O.written out.new) (O.faults out.new)) result }
+{
+    let Ok(own) = without_comments(alloc, defined, bytes) else {
+        return Status::Memory;
+    };
+    tell(
+        alloc,
+        &defined.language,
+        kind,
+        file,
+        own.bytes.as_slice(),
+        out,
+        steps,
+    )
+}
+
 /// Reads the file and puts what is found in it.
 fn tell_file<F: Files, O: Sink, L: Ledger>(
     alloc: Global,
-    language: &Language,
+    defined: &Defined,
     kind: Kind,
     file: &str,
     files: &mut F,
     out: &mut O,
     steps: &mut Steps<L>,
 ) -> Status
-    requires kind { HasKind language.now kind }
-    requires quiet_kind { IsDeclaringPhylum language.now kind → ⊥ }
-    ensures { (input : Incoming) → Reads file.now most_program_bytes (TellsLint language.now file.now kind)
+    requires fit { IsCommentOf (fixed_words defined.now.language) defined.now.comment }
+    requires kind { HasKind defined.now.language kind }
+    requires quiet_kind { IsDeclaringPhylum defined.now.language kind → ⊥ }
+    ensures { (input : Incoming) → Reads file.now most_program_bytes
+        (LintsFile defined.now.language defined.now.comment file.now kind)
         (seen (F.holds files.old) (F.faults files.old) input steps.old (O.written out.old) (O.faults out.old))
         (seen (F.holds files.new) (F.faults files.new) input steps.new (O.written out.new) (O.faults out.new))
         result }
@@ -109,32 +146,34 @@ fn tell_file<F: Files, O: Sink, L: Ledger>(
         Ok(bytes) => bytes,
         Err(status) => return status,
     };
-    tell(alloc, language, kind, file, bytes.as_slice(), out, steps)
+    tell_without(alloc, defined, kind, file, bytes.as_slice(), out, steps)
 }
 
 /// Looks up the kind, reads the file, and puts what is found in it.
 fn tell_kind<F: Files, O: Sink, L: Ledger>(
     alloc: Global,
-    language: &Language,
+    defined: &Defined,
     name: &str,
     file: &str,
     files: &mut F,
     out: &mut O,
     steps: &mut Steps<L>,
 ) -> Status
-    ensures { (input : Incoming) → Lints language.now name.now file.now
+    requires fit { IsCommentOf (fixed_words defined.now.language) defined.now.comment }
+    ensures { (input : Incoming) → Lints defined.now.language defined.now.comment name.now file.now
         (seen (F.holds files.old) (F.faults files.old) input steps.old (O.written out.old) (O.faults out.old))
         (seen (F.holds files.new) (F.faults files.new) input steps.new (O.written out.new) (O.faults out.new))
         result }
 {
-    let kind = match kind_of(alloc, language, name, out) {
+    let kind = match kind_of(alloc, &defined.language, name, out) {
         Ok(kind) => kind,
         Err(status) => return status,
     };
-    tell_file(alloc, language, kind, file, files, out, steps)
+    tell_file(alloc, defined, kind, file, files, out, steps)
 }
 
-/// Puts what is found in the file, which is to have a program of the kind. The order of tests is that of `format`.
+/// Puts what is found in the file without its comments, which is to have a program of the kind. The order of tests is
+/// that of `format`.
 pub fn lint_file<F: Files, O: Sink, L: Ledger>(
     alloc: Global,
     definition: &str,
@@ -149,9 +188,9 @@ pub fn lint_file<F: Files, O: Sink, L: Ledger>(
         (seen (F.holds files.new) (F.faults files.new) input steps.new (O.written out.new) (O.faults out.new))
         result }
 {
-    let language = match read_language(alloc, definition, files, out) {
-        Ok(language) => language,
+    let defined = match read_defined(alloc, definition, files, out) {
+        Ok(defined) => defined,
         Err(status) => return status,
     };
-    tell_kind(alloc, &language, kind, file, files, out, steps)
+    tell_kind(alloc, &defined, kind, file, files, out, steps)
 }

@@ -19,8 +19,8 @@ use psg_world::{Files, Sink, put_all};
 use std::alloc::Global;
 use std::sync::ledger::Ledger;
 
-/// Plays a line on the session, and puts the reply, framed or not. Otherwise it returns the status with which the run ends: a write
-/// fault, or out of memory. A front of the reply may be put then.
+/// Plays a line on the session, and puts the reply, framed or not. Otherwise it returns the status with which the run
+/// ends: a write fault, or out of memory. A front of the reply may be put then.
 fn play_line<F: Files, O: Sink, L: Ledger>(
     alloc: Global,
     session: &mut Session,
@@ -30,7 +30,8 @@ fn play_line<F: Files, O: Sink, L: Ledger>(
     out: &mut O,
     steps: &mut Steps<L>,
 ) -> Result<(), Status>
-    ensures ok { OnOk result ((input : Incoming) (before : PlainReply) → PutsReply (written_by framing) session.old.language line.now
+    ensures ok { OnOk result ((input : Incoming) (before : PlainReply)
+        → PutsReply (written_by framing) session.old.language line.now
         (state_of session.old.editor) (state_of session.new.editor) before
         (seen (F.holds files.old) (F.faults files.old) input steps.old (O.written out.old) (O.faults out.old))
         (seen (F.holds files.new) (F.faults files.new) input steps.new (O.written out.new) (O.faults out.new))) }
@@ -66,11 +67,13 @@ pub fn play_some<F: Files, O: Sink, L: Ledger>(
     steps: &mut Steps<L>,
 ) -> Result<(), Status>
     ensures ok { OnOk result ((input : Incoming) (before : PlainReply) (lines : List (List ℕ)) → AreOf lines line.entry
-        → PutsLines (written_by framing) session.old.language lines (state_of session.old.editor) (state_of session.new.editor) before
+        → PutsLines (written_by framing) session.old.language lines (state_of session.old.editor)
+        (state_of session.new.editor) before
         (seen (F.holds files.old) (F.faults files.old) input steps.old (O.written out.old) (O.faults out.old))
         (seen (F.holds files.new) (F.faults files.new) input steps.new (O.written out.new) (O.faults out.new))) }
     ensures err { IfErr result (λ status. (input : Incoming) (before : PlainReply) (lines : List (List ℕ))
-        → AreOf lines line.entry → FinishesIn (written_by framing) session.old.language lines (state_of session.old.editor) before
+        → AreOf lines line.entry
+        → FinishesIn (written_by framing) session.old.language lines (state_of session.old.editor) before
         (seen (F.holds files.old) (F.faults files.old) input steps.old (O.written out.old) (O.faults out.old))
         (seen (F.holds files.new) (F.faults files.new) input steps.new (O.written out.new) (O.faults out.new)) status) }
     ensures language { session.new.language ≡ session.old.language }

@@ -56,7 +56,7 @@ fn play_file<F: Files, O: Sink, L: Ledger>(
 }
 
 /// Reads the script and then the layout, plays the script on a new session of the language, and puts what is opened
-/// then, arranged for so many columns.
+/// then, arranged for that many columns.
 fn arrange_file<F: Files, O: Sink, L: Ledger>(
     alloc: Global,
     language: Language,
@@ -169,8 +169,8 @@ fn windows<F: Files, O: Sink, L: Ledger>(
     play_window_file(alloc, language, script, files, out, steps)
 }
 
-/// Plays the lines of the input on the definition, with the replies framed or not. The order of tests is: the definition is read, its length, whether
-/// it is one, whether it is accepted, then the lines as they are read.
+/// Plays the lines of the input on the definition, with the replies framed or not. The order of tests is: the
+/// definition is read, its length, whether it is one, whether it is accepted, then the lines as they are read.
 fn live<F: Files, I: Input, O: Sink, L: Ledger>(
     alloc: Global,
     definition: &str,
@@ -226,18 +226,18 @@ fn layout<F: Files, O: Sink, L: Ledger>(
 /// Does what the words say, and returns how that ended; `Status` says when each ending is returned. `check DEF` says in
 /// one line whether the file DEF has a definition that is accepted. `edit DEF SCRIPT` plays each line of the file
 /// SCRIPT, a command, on an editor of the definition; the replies go to `out`. `live DEF` plays the lines of the input
-/// likewise, and puts the reply to each before it reads the next one; `live --framed DEF` puts a line with the number of
-/// its lines before each reply. `windows DEF SCRIPT` plays the lines of a file
-/// for eight windows, each with a cursor of its own: a line is a digit from 0 to 7, a space and a command. `gen N` plays
-/// a script that is made for the number N, from 1 to 1,000, on the language MINI, and writes five lines of the program
-/// then. `layout DEF SCRIPT LAY COLS` plays a script as `edit` does, but in silence. Then it writes the opened program,
-/// arranged by the file LAY for COLS columns, from 1 to 400, or `none` if nothing is opened. `self SCRIPT OUT` plays a
-/// script in silence on the language of definitions, writes the definition that is opened then to the file OUT, and says
-/// whether it is accepted. `format DEF KIND FILE` writes the text that the file FILE is to have, which has a program of
-/// the kind KIND, and `format DEF KIND FILE --check` says in which line it does not have it first. `explain DEF SCRIPT`
-/// plays a script in silence and says why the opened program has no completion: the first node without one, its first
-/// step without rows, and why that has none. `steps` counts evaluations of nodes and list suffixes: a command evaluates
-/// what is new and what is above it.
+/// likewise, and puts the reply to each before it reads the next one; `live --framed DEF` puts a line with the number
+/// of its lines before each reply. `windows DEF SCRIPT` plays the lines of a file for eight windows, each with a cursor
+/// of its own: a line is a digit from 0 to 7, a space and a command. `gen N` plays a script that is made for the number
+/// N, from 1 to 1,000, on the language MINI, and writes five lines of the program then. `layout DEF SCRIPT LAY COLS`
+/// plays a script as `edit` does, but in silence. Then it writes the opened program, arranged by the file LAY for COLS
+/// columns, from 1 to 400, or `none` if nothing is opened. `self SCRIPT OUT` plays a script in silence on the language
+/// of definitions, writes the definition that is opened then to the file OUT, and says whether it is accepted. `format
+/// DEF KIND FILE` writes the text that the file FILE is to have, which has a program of the kind KIND, and `format DEF
+/// KIND FILE --check` says in which line it does not have it first. `explain DEF SCRIPT` plays a script in silence and
+/// says why the opened program has no completion: the first node without one, its first step without rows, and why that
+/// has none. `steps` counts evaluations of nodes and list suffixes: a command evaluates what is new and what is above
+/// it.
 pub fn run<F: Files, I: Input, O: Sink, L: Ledger>(
     alloc: Global,
     words: &[String],

@@ -12,8 +12,8 @@ pub enum Status {
     DefinitionRefused,
     /// The words have none of the forms; nothing was read or written.
     Words,
-    /// A read of the definition, of the script, of the layout or of the program failed, and nothing was written; or one of the input
-    /// failed, and the replies to the lines before were written.
+    /// A read of the definition, of the script, of the layout or of the program failed, and nothing was written; or one
+    /// of the input failed, and the replies to the lines before were written.
     ReadFault,
     /// A write of the output failed; a front of the output was written, and not all of it.
     WriteFault,

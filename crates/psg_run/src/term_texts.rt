@@ -30,7 +30,7 @@ fn push_before(text: &mut String, number: usize) -> Result<(), AllocError>
     Ok(())
 }
 
-/// Writes what is after the last of so many arguments: the bracket, or nothing if there are none.
+/// Writes what is after the last of that many arguments: the bracket, or nothing if there are none.
 fn push_after(text: &mut String, count: usize) -> Result<(), AllocError>
     ensures { IfOk result (λ _. string_bytes text.new ≡ string_bytes text.old ++ after count) }
 {

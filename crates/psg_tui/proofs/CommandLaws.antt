@@ -40,13 +40,13 @@ cond_true : (b : Bool) (X Y : Type 0) → b ≡ true → X → cond b X Y
 cond_true b X Y e x = subst (λ (c : Bool). cond c X Y) (sym e) x
 
 pub does_so : (def : Definition) (kind : Kind) (page : List (List ℕ)) (d e : Desk) (s t : State) (old new : Fragment)
-    (stroke : Spelled) (before after : Outside) (from to middle : ℕ) (due : Due) (reply : Reply)
-    → (is_undo due.command && (d.versions == 0)) ≡ false → HasApplied def s t due.command before after middle to reply
+    (stroke : Spelled) (before after : Outside) (from to : ℕ) (due : Due) (reply : Reply)
+    → (is_undo due.command && (d.versions == 0)) ≡ false → HasApplied def s t due.command before after from to reply
     → e ≡ heard new (number_in reply) due d
-    → Does def kind page d e s t old new stroke before after from to (Some due)
-does_so def kind page d e s t old new stroke before after from to middle due reply other applied is =
+    → Does def kind page d e s t old new stroke before after (Some due)
+does_so def kind page d e s t old new stroke before after from to due reply other applied is =
     cond_false (is_undo due.command && (d.versions == 0)) _ _ other
-    (middle, reply, applied, is ∙ heard_reply new reply due d)
+    (from, to, reply, applied, is ∙ heard_reply new reply due d)
 
 abbrev pub due_of : Command → Option (List ℕ) → Due
 due_of command grown = record { command = command; grown = grown }
@@ -55,10 +55,10 @@ due_of command grown = record { command = command; grown = grown }
 pub first_so : (a b : Editing) → b ≡ record a { face = b.face } → a.aim ≡ aims.Settled → (tree : Fragment) (due : Due)
     → (is_undo due.command && (a.versions == 0)) ≡ true
     → desk b ≡ with_face (desk a) (saying (faces.refused (number_of refusals.NothingEarlier)) (face_of a.face))
-    → (stroke : Spelled) (before : Outside) (from to : ℕ)
+    → (stroke : Spelled) (before : Outside)
     → Does a.session.language a.kind key_lines (desk a) (desk_of tree b) (state_of a.session.editor)
-    (state_of b.session.editor) tree tree stroke before before from to (Some due)
-first_so a b left settled tree due so said stroke before from to =
+    (state_of b.session.editor) tree tree stroke before before (Some due)
+first_so a b left settled tree due so said stroke before =
     cond_true (is_undo due.command && (a.versions == 0)) _ _ so (
       ap (λ (x : Editing). state_of x.session.editor) left,
       desk_settled b tree (ap (λ (x : Editing). x.aim) left ∙ settled) ∙ said,
@@ -69,17 +69,17 @@ pub first_at : (a b : Editing) → b ≡ record a { face = b.face } → (tree : 
 first_at a b left tree at = (program_left a b left).at tree at
 
 pub does_heard : (a b : Editing) (p : Parts) → IsHeard (record a { session = p }) b → (tree new : Fragment)
-    (stroke : Spelled) (before after : Outside) (from to middle : ℕ) (due : Due) (reply : Reply)
+    (stroke : Spelled) (before after : Outside) (from to : ℕ) (due : Due) (reply : Reply)
     → (is_undo due.command && (a.versions == 0)) ≡ false
-    → HasApplied a.session.language (state_of a.session.editor) (state_of p.editor) due.command before after middle to reply
+    → HasApplied a.session.language (state_of a.session.editor) (state_of p.editor) due.command before after from to reply
     → desk_of new b ≡ heard new (number_in reply) due (desk a)
     → Does a.session.language a.kind key_lines (desk a) (desk_of new b) (state_of a.session.editor)
-    (state_of b.session.editor) tree new stroke before after from to (Some due)
-does_heard a b p left tree new stroke before after from to middle due reply other applied is =
+    (state_of b.session.editor) tree new stroke before after (Some due)
+does_heard a b p left tree new stroke before after from to due reply other applied is =
     does_so a.session.language a.kind key_lines (desk a) (desk_of new b) (state_of a.session.editor)
-    (state_of b.session.editor) tree new stroke before after from to middle due reply other
+    (state_of b.session.editor) tree new stroke before after from to due reply other
     (subst (λ (x : Parts). HasApplied a.session.language (state_of a.session.editor) (state_of x.editor) due.command before
-    after middle to reply) (sym left.session) applied) is
+    after from to reply) (sym left.session) applied) is
 
 -- ---- the program after it
 

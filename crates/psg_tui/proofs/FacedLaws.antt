@@ -45,14 +45,16 @@ use Rattle.psg_session.specs.Exchanges.{Outside}
 use Rattle.psg_session.specs.PlainState.{Answer, Opened, State}
 use Rattle.psg_session.specs.PlainStep.{Steps, refuses, opens as opened_new, changes, undoes, redoes, saves, keeps, fetches, shows, goes, screens, owns, relates, frees, offers as menus, suggests}
 use Rattle.psg_session.specs.Replies.{Reply, refused, answered}
-use Rattle.psg_tui.specs.Pressing.{Browses, Chooses, Desk, Does, IsNextWrong, IsOpened, IsWritten, Leaves, Replaces, Saves}
+use Rattle.psg_tui.specs.Pressing.{Browses, Chooses, Desk, Does, IsNextWrong, IsOpened, IsWritten, Leaves, Replaces, Saves, is_down}
 use Rattle.psg_tui.specs.Pressing.{Turns, TurnsIn, Writes, WritesIf, WritesTo, chosen_after, command_face}
 use Rattle.psg_tui.specs.Pressing.{offered, related, versions_after, with_face}
 use Rattle.psg_tui.specs.Pressing as keyed
 use Rattle.psg_tui.proofs.LeadingLaws.{Leads, culprits_lead, opens_lead, repair_leads}
 use Rattle.psg_tui.proofs.NextLaws.{next_in}
 use Rattle.psg_unparse.proofs.Listed.{IsProper}
+use Rattle.psg_unparse.specs.Spans.{printed_of}
 use Rattle.psg_unparse.specs.Splicing.{leads_along}
+use Rattle.psg_tui.proofs.PagingLaws.{AllLead, page_leads}
 
 -- ---- the chosen path stays
 
@@ -236,7 +238,7 @@ module _ (f : Fragment) (proper : IsProper f) where
 same_leads : (f : Fragment) (p q : Path) → q ≡ p → Leads f p → Leads f q
 same_leads f p q e h = subst (Leads f) (sym e) h
 
-module _ (def : Definition) (kind : Kind) (tree : Fragment) (page : List (List ℕ)) (proper : IsProper tree) where
+module _ (def : Definition) (kind : Kind) (tree : Fragment) (page : List (List ℕ)) (proper : IsProper tree) (spans : AllLead tree (printed_of def tree).spans) where
   next_wrong_leads : (path : Path) (forward : Bool) (found : Path) (why : Why)
       → IsNextWrong def kind tree page path forward found why → Leads tree found
   next_wrong_leads path forward found why (keyed.blamed r is place i e) =
@@ -268,7 +270,8 @@ module _ (def : Definition) (kind : Kind) (tree : Fragment) (page : List (List �
       → Browses def kind tree page d before after stroke e → Leads tree d.face.chosen → Leads tree e.face.chosen
   browse_leads d before after stroke e (keyed.moves {path = path} is same) h =
       led_leads tree proper d.face.chosen stroke.key path is h
-  browse_leads d before after stroke e (keyed.pages is leading same) h = leading h
+  browse_leads d before after stroke e (keyed.pages is same) h =
+      page_leads tree (printed_of def tree) spans d.face (is_down stroke.key) h
   browse_leads d before after stroke e (keyed.offers {spot = spot} told is asked same) h =
       same_leads tree d.face.chosen _ (offered_chosen d.face spot told) h
   browse_leads d before after stroke e (keyed.goes_wrong {path = path} {why = why} is wrong next same) h =
@@ -354,32 +357,32 @@ opened_same : (s t : State) (kind : Kind) (old new : Fragment) → IsOpened s ki
 opened_same s t kind old new a b e =
     ap (λ (o : Opened). o.tree) (same_Some _ _ (sym b ∙ ap (λ (x : State). x.opened) e ∙ a))
 
-module _ (def : Definition) (kind : Kind) (page : List (List ℕ)) (d e : Desk) (s t : State) (old new : Fragment) (stroke : Spelled) (before after : Outside) (from to : ℕ) (at : IsOpened s kind old) (ends : IsOpened t kind new) (proper : IsProper old) (grown_proper : IsProper new) (h : Leads old d.face.chosen) where
+module _ (def : Definition) (kind : Kind) (page : List (List ℕ)) (d e : Desk) (s t : State) (old new : Fragment) (stroke : Spelled) (before after : Outside) (at : IsOpened s kind old) (ends : IsOpened t kind new) (proper : IsProper old) (grown_proper : IsProper new) (spans : AllLead old (printed_of def old).spans) (h : Leads old d.face.chosen) where
   unchanged : (x : Desk) → t ≡ s → x.face.chosen ≡ d.face.chosen → Leads new x.face.chosen
   unchanged x stays same =
       subst (λ (f : Fragment). Leads f x.face.chosen) (sym (opened_same s t kind old new at ends stays))
       (same_leads old d.face.chosen x.face.chosen same h)
 
-  replied : (due : Due) (middle : ℕ) (reply : Reply) → HasApplied def s t due.command before after middle to reply
+  replied : (due : Due) (from to : ℕ) (reply : Reply) → HasApplied def s t due.command before after from to reply
       → e ≡ record (with_face d (command_face new d.face due reply)) { versions = versions_after due.command reply d.versions }
       → Leads new e.face.chosen
-  replied due middle (refused refusal) applied is =
+  replied due from to (refused refusal) applied is =
       unchanged e (refused_stays def (IsCompletable def) s applied.answer applied.steps tt)
       (ap (λ (x : Desk). x.face.chosen) is)
-  replied due middle (answered lines) applied is =
+  replied due from to (answered lines) applied is =
       same_leads new _ _ (ap (λ (x : Desk). x.face.chosen) is) (after_leads new grown_proper d.face.chosen due.grown)
 
   by_undo : (due : Due) (first_one : Bool) → cond first_one
       ((t ≡ s) × (e ≡ with_face d (saying (faces.refused (number_of refusals.NothingEarlier)) d.face)) × (after ≡ before))
-      ((middle : ℕ) × (reply : Reply) × HasApplied def s t due.command before after middle to reply
+      ((from to : ℕ) × (reply : Reply) × HasApplied def s t due.command before after from to reply
       × (e ≡ record (with_face d (command_face new d.face due reply)) { versions = versions_after due.command reply d.versions }))
       → Leads new e.face.chosen
   by_undo due true x = unchanged e x.0 (ap (λ (y : Desk). y.face.chosen) x.1)
-  by_undo due false x = replied due x.0 x.1 x.2 x.3
+  by_undo due false x = replied due x.0 x.1 x.2 x.3 x.4
 
-  pub faced_so : (due : Option Due) → Does def kind page d e s t old new stroke before after from to due
+  pub faced_so : (due : Option Due) → Does def kind page d e s t old new stroke before after due
       → Leads new e.face.chosen
   faced_so None x =
       subst (λ (f : Fragment). Leads f e.face.chosen) (sym (opened_same s t kind old new at ends x.0))
-      (turn_leads def kind old page proper d before after stroke e h stroke.key x.1)
+      (turn_leads def kind old page proper spans d before after stroke e h stroke.key x.1)
   faced_so (Some due) x = by_undo due (is_undo due.command && (d.versions == 0)) x

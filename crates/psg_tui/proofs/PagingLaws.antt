@@ -7,16 +7,16 @@ use Rattle.psg_grammar.specs.declared.types.Definition.{Definition}
 use Rattle.psg_grammar.specs.declared.types.Kind.{Kind}
 use Rattle.psg_grammar.specs.Fragments.{Fragment}
 use Rattle.psg_grammar.specs.Paths.{Path}
-use Rattle.psg_grammar.specs.WellFormed.{WellFormed}
 use Rattle.psg_keys.specs.declared.key.Key.{Key}
 use Rattle.psg_keymap.specs.Faces.{Face}
 use Rattle.psg_modes.specs.Turning.{first_from, is_page_key, line_from, page_line, page_path, path_or, span_or}
 use Rattle.psg_session.specs.Formed.{IsFormedState}
-use Rattle.psg_session.specs.Sessions.{state_of}
+use Rattle.psg_session.specs.PlainState.{State}
 use Rattle.psg_tui.specs.declared.editing.Aim.TheVariants as aims
 use Rattle.psg_tui.specs.declared.editing.Editing.{Editing}
 use Rattle.psg_tui.specs.Editing.{IsAt}
 use Rattle.psg_tui.specs.Found.{IsLed, IsLedBy}
+use Rattle.psg_tui.specs.Pressing.{IsOpened, is_down}
 use Rattle.psg_tui.specs.Views.{face_of}
 use Rattle.psg_tui.proofs.LeadingLaws.{Leads, spans_lead}
 use Rattle.psg_unparse.specs.Spans.{printed_of}
@@ -27,7 +27,7 @@ abbrev SpanLeads : Fragment → Option Span → Type 0
 SpanLeads f None = Unit {0}
 SpanLeads f (Some s) = Leads f s.path
 
-abbrev AllLead : Fragment → List Span → Type 0
+abbrev pub AllLead : Fragment → List Span → Type 0
 AllLead f spans = AllByRecursion (λ (s : Span). Leads f s.path) spans
 
 span_cond : (f : Fragment) (test : Bool) (a b : Option Span) → SpanLeads f a → SpanLeads f b
@@ -53,7 +53,7 @@ or_path : (f : Fragment) (path : Path) (o : Option Span) → Leads f path → Sp
 or_path f path None h x = h
 or_path f path (Some s) h x = x
 
-page_leads : (f : Fragment) (p : Printed) → AllLead f p.spans → (face : Face) (down : Bool) → Leads f face.chosen
+pub page_leads : (f : Fragment) (p : Printed) → AllLead f p.spans → (face : Face) (down : Bool) → Leads f face.chosen
     → Leads f (page_path p face down)
 page_leads f p a face down h =
     or_path f face.chosen
@@ -62,14 +62,16 @@ page_leads f p a face down h =
     (slice_get p.spans (length p.spans - 1))
     (first_span f (line_from 0 0 (page_line p face down) p.text) p.spans a) (got_span f p.spans (length p.spans - 1) a))
 
-module _ (e : Editing) (tree : Fragment) (at : IsAt e tree) (settled : e.aim ≡ aims.Settled) (formed : IsFormedState e.session.language (state_of e.session.editor)) where
-  all_lead : AllLead tree e.shown.printed.spans
-  all_lead =
-      subst (λ (p : Printed). AllLead tree p.spans) (sym (at.shown settled).printed)
-      (spans_lead e.session.language tree e.kind (formed.opened (record { kind = e.kind; tree = tree }) at.opened))
+pub paged_so : (e : Editing) (tree : Fragment) → IsAt e tree → e.aim ≡ aims.Settled → (key : Key)
+    → is_page_key key ≡ true → (down : Bool) → down ≡ is_down key → (path : Path)
+    → path ≡ page_path e.shown.printed (face_of e.face) down
+    → IsLed e.session.language tree (face_of e.face) key (Some path)
+paged_so e tree at settled key page down same path is =
+    subst (λ (b : Bool). IsLedBy e.session.language tree (face_of e.face) key b (Some path)) (sym page)
+    (ap Some (is ∙ ap (λ (p : Printed). page_path p (face_of e.face) down) (at.shown settled).printed
+    ∙ ap (page_path (printed_of e.session.language tree) (face_of e.face)) same))
 
-  pub paged_so : (key : Key) → is_page_key key ≡ true → (down : Bool) (path : Path)
-      → path ≡ page_path e.shown.printed (face_of e.face) down → IsLed tree e.face.chosen key (Some path)
-  paged_so key page down path is =
-      subst (λ (b : Bool). IsLedBy tree e.face.chosen key b (Some path)) (sym page)
-      (λ h. subst (Leads tree) (sym is) (page_leads tree e.shown.printed all_lead (face_of e.face) down h))
+-- the places of a program's text lead
+pub all_lead : (def : Definition) (s : State) (kind : Kind) (tree : Fragment) → IsFormedState def s → IsOpened s kind tree
+    → AllLead tree (printed_of def tree).spans
+all_lead def s kind tree formed at = spans_lead def tree kind (formed.opened (record { kind = kind; tree = tree }) at)

@@ -26,6 +26,7 @@ use Rattle.psg_tui.specs.Views.{desk, desk_of, face_of, settled, shown_face}
 use Rattle.psg_tui.proofs.EditingLaws.{as_before}
 use Rattle.psg_tui.proofs.FacedLaws.{faced_so}
 use Rattle.psg_tui.proofs.LeadingLaws.{proper_by}
+use Rattle.psg_tui.proofs.PagingLaws.{all_lead}
 use Rattle.psg_tui.proofs.TurnLaws.{desk_known}
 use Rattle.psg_unparse.proofs.Listed.{IsProper}
 
@@ -94,11 +95,11 @@ desk_before a b x t at =
 -- ---- what a key does that is no command
 
 pub turned_so : (a b : Editing) → IsOfProgram a b → b.aim ≡ a.aim → a.aim ≡ aims.Settled → (tree : Fragment)
-    (stroke : Spelled) (before after : Outside) (from to : ℕ)
+    (stroke : Spelled) (before after : Outside)
     → Turns a.session.language a.kind tree key_lines (desk a) before after stroke stroke.key (desk b)
     → Does a.session.language a.kind key_lines (desk a) (desk_of tree b) (state_of a.session.editor)
-    (state_of b.session.editor) tree tree stroke before after from to None
-turned_so a b p aim settled tree stroke before after from to turned = (
+    (state_of b.session.editor) tree tree stroke before after None
+turned_so a b p aim settled tree stroke before after turned = (
   ap (λ (x : Parts). state_of x.editor) p.session,
   subst (λ (e : Desk). Turns a.session.language a.kind tree key_lines (desk a) before after stroke stroke.key e)
       (sym (desk_settled b tree (aim ∙ settled))) turned,
@@ -110,12 +111,12 @@ pub keys_at : (o : Option Due) (due : Due) → o ≡ Some due → IfSome o (λ (
     → is_of_keys due.command ≡ true
 keys_at o due e h = subst (λ (x : Option Due). IfSome x (λ (d : Due). is_of_keys d.command ≡ true)) e h
 
-module _ (a b : Editing) (old : Fragment) (stroke : Spelled) (before after : Outside) (from to : ℕ) (o : Option Due) where
+module _ (a b : Editing) (old : Fragment) (stroke : Spelled) (before after : Outside) (o : Option Due) where
   abbrev pub Acts : Option Due → Type 0
   Acts due =
       (new : Fragment) × IsAt b new
       × Does a.session.language a.kind key_lines (desk a) (desk_of new b) (state_of a.session.editor)
-      (state_of b.session.editor) old new stroke before after from to due
+      (state_of b.session.editor) old new stroke before after due
 
   pub act_some : (due : Due) → o ≡ Some due → Acts (Some due) → Acts o
   act_some due e h = subst Acts (sym e) h
@@ -123,16 +124,16 @@ module _ (a b : Editing) (old : Fragment) (stroke : Spelled) (before after : Out
   pub act_none : o ≡ None → IsOfProgram a b → b.aim ≡ a.aim → a.aim ≡ aims.Settled → IsAt a old
       → Turns a.session.language a.kind old key_lines (desk a) before after stroke stroke.key (desk b) → Acts o
   act_none e p aim is_settled at turned =
-      subst Acts (sym e) (old, p.at old at, turned_so a b p aim is_settled old stroke before after from to turned)
+      subst Acts (sym e) (old, p.at old at, turned_so a b p aim is_settled old stroke before after turned)
 
 does_as : (def : Definition) (kind : Kind) (page : List (List ℕ)) (d e : Desk) (s t : State) (old new : Fragment)
-    (stroke : Spelled) (before start after : Outside) (from other to : ℕ) (due : Option Due) → start ≡ before
-    → Does def kind page d e s t old new stroke start after other to due
-    → Does def kind page d e s t old new stroke before after from to due
-does_as def kind page d e s t old new stroke before start after from other to None same h =
-    subst (λ (b : Outside). Does def kind page d e s t old new stroke b after from to None) same h
-does_as def kind page d e s t old new stroke before start after from other to (Some due) same h =
-    subst (λ (b : Outside). Does def kind page d e s t old new stroke b after from to (Some due)) same h
+    (stroke : Spelled) (before start after : Outside) (due : Option Due) → start ≡ before
+    → Does def kind page d e s t old new stroke start after due
+    → Does def kind page d e s t old new stroke before after due
+does_as def kind page d e s t old new stroke before start after None same h =
+    subst (λ (b : Outside). Does def kind page d e s t old new stroke b after None) same h
+does_as def kind page d e s t old new stroke before start after (Some due) same h =
+    subst (λ (b : Outside). Does def kind page d e s t old new stroke b after (Some due)) same h
 
 due_key : (def : Definition) (kind : Kind) (tree : Fragment) (page : List (List ℕ)) (f : Face) (k key : Key)
     (due : Option Due) → k ≡ key → IsDue def kind tree page f k due → IsDue def kind tree page f key due
@@ -152,7 +153,7 @@ module _ (e0 e1 e2 e3 : Editing) (first_step : IsAsBefore e0 e1) (settled_so : e
   kind_is : e2.kind ≡ e0.kind
   kind_is = ap (λ (x : Editing). x.kind) known.left ∙ first_step.program.kind
 
-  module _ (old new : Fragment) (at : IsAt e0 old) (ends : IsAt e3 new) (stroke : Spelled) (before after : Outside) (from to : ℕ) (due : Option Due) where
+  module _ (old new : Fragment) (at : IsAt e0 old) (ends : IsAt e3 new) (stroke : Spelled) (before after : Outside) (due : Option Due) where
     desk_is : desk e2 ≡ desk_of old e0
     desk_is =
         desk_known e1 e2 known ∙ sym (desk_settled e1 old settled_so) ∙ desk_before e0 e1 first_step old at
@@ -161,16 +162,16 @@ module _ (e0 e1 e2 e3 : Editing) (first_step : IsAsBefore e0 e1) (settled_so : e
     face_is = sym (ap (λ (x : Aim). shown_face old x e1.face) settled_so) ∙ first_step.face old at
 
     does_from : Does e2.session.language e2.kind key_lines (desk e2) (desk_of new e3) (state_of e2.session.editor)
-        (state_of e3.session.editor) old new stroke before after from to due
+        (state_of e3.session.editor) old new stroke before after due
         → Does e0.session.language e0.kind key_lines (desk_of old e0) (desk_of new e3) (state_of e0.session.editor)
-        (state_of e3.session.editor) old new stroke before after from to due
+        (state_of e3.session.editor) old new stroke before after due
     does_from h =
         subst (λ (d : Desk). Does e0.session.language e0.kind key_lines d (desk_of new e3) (state_of e0.session.editor)
-        (state_of e3.session.editor) old new stroke before after from to due) desk_is
+        (state_of e3.session.editor) old new stroke before after due) desk_is
         (subst (λ (k : Kind). Does e0.session.language k key_lines (desk e2) (desk_of new e3) (state_of e0.session.editor)
-        (state_of e3.session.editor) old new stroke before after from to due) kind_is
+        (state_of e3.session.editor) old new stroke before after due) kind_is
         (subst (λ (p : Parts). Does p.language e2.kind key_lines (desk e2) (desk_of new e3) (state_of p.editor)
-        (state_of e3.session.editor) old new stroke before after from to due) session_is h))
+        (state_of e3.session.editor) old new stroke before after due) session_is h))
 
     due_from : IsDue e1.session.language e1.kind old key_lines (face_of e1.face) stroke.key due
         → IsDue e0.session.language e0.kind old key_lines (shown_face old e0.aim e0.face) stroke.key due
@@ -188,9 +189,9 @@ module _ (e0 e1 e2 e3 : Editing) (first_step : IsAsBefore e0 e1) (settled_so : e
         → IsFormedState e3.session.language (state_of e3.session.editor)
         → IsDue e1.session.language e1.kind old key_lines (face_of e1.face) stroke.key due
         → Does e2.session.language e2.kind key_lines (desk e2) (desk_of new e3) (state_of e2.session.editor)
-        (state_of e3.session.editor) old new stroke before after from to due
+        (state_of e3.session.editor) old new stroke before after due
         → Presses e0.session.language e0.kind key_lines (desk_of old e0) (desk_of new e3) (state_of e0.session.editor)
-        (state_of e3.session.editor) old new stroke before after from to
+        (state_of e3.session.editor) old new stroke before after
     press_so formed formed_after is h = record {
       opened = at.opened;
       opens = opens_as;
@@ -199,22 +200,22 @@ module _ (e0 e1 e2 e3 : Editing) (first_step : IsAsBefore e0 e1) (settled_so : e
       pressed = does_from h;
       faced = λ led.
           faced_so e0.session.language e0.kind key_lines (desk_of old e0) (desk_of new e3) (state_of e0.session.editor)
-          (state_of e3.session.editor) old new stroke before after from to at.opened opens_as
+          (state_of e3.session.editor) old new stroke before after at.opened opens_as
           (formed_tree e0.session.language (state_of e0.session.editor) e0.kind old formed at.opened)
           (formed_tree e3.session.language (state_of e3.session.editor) e3.kind new formed_after ends.opened)
+          (all_lead e0.session.language (state_of e0.session.editor) e0.kind old formed at.opened)
           led due (does_from h);
     }
 
     pub press_from : IsFormedState e0.session.language (state_of e0.session.editor)
         → IsFormedState e3.session.language (state_of e3.session.editor) → (k : Key) → k ≡ stroke.key
         → IsDue e1.session.language e1.kind old key_lines (face_of e1.face) k due → (start : Outside) → start ≡ before
-        → (other : ℕ)
         → Does e2.session.language e2.kind key_lines (desk e2) (desk_of new e3) (state_of e2.session.editor)
-        (state_of e3.session.editor) old new stroke start after other to due
+        (state_of e3.session.editor) old new stroke start after due
         → Presses e0.session.language e0.kind key_lines (desk_of old e0) (desk_of new e3) (state_of e0.session.editor)
-        (state_of e3.session.editor) old new stroke before after from to
-    press_from formed formed_after k same_key is start same_start other h =
+        (state_of e3.session.editor) old new stroke before after
+    press_from formed formed_after k same_key is start same_start h =
         press_so formed formed_after
         (due_key e1.session.language e1.kind old key_lines (face_of e1.face) k stroke.key due same_key is)
         (does_as e2.session.language e2.kind key_lines (desk e2) (desk_of new e3) (state_of e2.session.editor)
-        (state_of e3.session.editor) old new stroke before start after from other to due same_start h)
+        (state_of e3.session.editor) old new stroke before start after due same_start h)

@@ -80,12 +80,12 @@ memory_in r p q n H same is = err_by r (IsAsBefore q n × H) (before_in p q n sa
 pub scrolled_in : (p q n : Editing) → p ≡ q → IsScrolled p n → IsScrolled q n
 scrolled_in p q n same is = subst (λ x. IsScrolled x n) same is
 
-module _ (page : List (List ℕ)) (stroke : Spelled) (before after : Outside) (from to : ℕ) (n : Editing) where
+module _ (page : List (List ℕ)) (stroke : Spelled) (before after : Outside) (n : Editing) where
   -- what a key makes of an editor whose program is `old`
   abbrev pub IsPressed : Editing → Fragment → Fragment → Type 0
   IsPressed e old new =
       Presses e.session.language e.kind page (desk_of old e) (desk_of new n) (state_of e.session.editor)
-      (state_of n.session.editor) old new stroke before after from to
+      (state_of n.session.editor) old new stroke before after
 
   pub pressed_in : (p q : Editing) → p ≡ q → IsEditing p
       → ((old : Fragment) → IsAt p old → (new : Fragment) × IsAt n new × IsPressed p old new)

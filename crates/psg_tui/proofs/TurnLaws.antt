@@ -3,6 +3,7 @@ use Rattle.std.proofs.Common.{◌≡◌, ℕ, ◌==◌, ◌||◌, not, Bool, tru
 use Rattle.std.specs.Prelude.{bytes_eq, option_map}
 use Rattle.std.proofs.lemmas.Bool.{false≢true, true≢false}
 use Rattle.std.proofs.lemmas.Bool.Decides.{Decides-eqb}
+use Rattle.std.proofs.lemmas.Option.{none-some, same_Some}
 use Rattle.psg_terms.specs.Names.{Name}
 use Rattle.psg_cache.specs.Annotated.{Annotated, tree_in}
 use Rattle.psg_grammar.specs.declared.types.Definition.{Definition}
@@ -23,7 +24,7 @@ use Rattle.psg_keymap.specs.Repairs.{IsRepairOf}
 use Rattle.psg_keymap.specs.declared.repair.Repair.{Repair}
 use Rattle.psg_keymap.specs.Spots.{spot_for}
 use Rattle.psg_modes.specs.Pages.{key_lines}
-use Rattle.psg_modes.specs.Turning.{browsed, choosing, chosen_key, is_own_key, is_page_key, is_wrong_key, led, naming, saying}
+use Rattle.psg_modes.specs.Turning.{browsed, choosing, chosen_key, is_own_key, is_page_key, is_wrong_key, led, naming, page_path, saying}
 use Rattle.psg_modes.specs.Wrong.{is_forward}
 use Rattle.psg_asking.specs.Asked.{IsToldOf, Read, menu_of, names_of, relation_of}
 use Rattle.psg_asking.specs.Told.{lines_told, names_told, words_told}
@@ -38,7 +39,7 @@ use Rattle.psg_tui.specs.declared.editing.Editing.{Editing}
 use Rattle.psg_tui.specs.Editing.{IsAt, IsKnownMore, IsOfProgram, IsUntouched, is_wrong}
 use Rattle.psg_tui.specs.Found.{GoesWrong, IsBlamedFound, IsLed, IsLedBy, IsWrongFound, goes, is_letter, next, nothing, right, seen_of, went}
 use Rattle.psg_tui.specs.Found as seen
-use Rattle.psg_tui.specs.Pressing.{Browses, Chooses, Desk, Leaves, Replaces, Saves, Turns, TurnsIn, Writes, is_changed, with_face}
+use Rattle.psg_tui.specs.Pressing.{Browses, Chooses, Desk, Leaves, Replaces, Saves, Turns, TurnsIn, Writes, is_changed, is_down, with_face}
 use Rattle.psg_tui.specs.Pressing as keyed
 use Rattle.psg_tui.specs.Views.{desk, face_of, outside}
 use Rattle.psg_tui.proofs.EditingLaws.{known_before}
@@ -197,21 +198,21 @@ name_at def kind tree spot n m told e is =
 
 -- ---- keys
 
-is_page : (b : Bool) (key : Key) (tree : Fragment) (chosen : Path) → is_page_key key ≡ b → IsLedBy tree chosen key b None
-    → (is_page_key key ≡ false) × (led tree chosen key ≡ None)
-is_page true key tree chosen e h = absurd h
-is_page false key tree chosen e h = (e, sym h)
+is_page : (b : Bool) (key : Key) (def : Definition) (tree : Fragment) (f : Face) → is_page_key key ≡ b
+    → IsLedBy def tree f key b None → (is_page_key key ≡ false) × (led tree f.chosen key ≡ None)
+is_page true key def tree f e h = absurd (none-some (page_path (printed_of def tree) f (is_down key)) h)
+is_page false key def tree f e h = (e, sym h)
 
-pub led_other : (tree : Fragment) (chosen : Path) (key : Key) (path : Option Path) → (key ≡ keys.PageDown → ⊥)
-    → (key ≡ keys.PageUp → ⊥) → path ≡ led tree chosen key → IsLed tree chosen key path
-led_other tree chosen keys.PageDown path d u h = absurd (d refl)
-led_other tree chosen keys.PageUp path d u h = absurd (u refl)
-led_other tree chosen _ path d u h = h
+pub led_other : (def : Definition) (tree : Fragment) (f : Face) (key : Key) (path : Option Path)
+    → (key ≡ keys.PageDown → ⊥) → (key ≡ keys.PageUp → ⊥) → path ≡ led tree f.chosen key → IsLed def tree f key path
+led_other def tree f keys.PageDown path d u h = absurd (d refl)
+led_other def tree f keys.PageUp path d u h = absurd (u refl)
+led_other def tree f _ path d u h = h
 
-pub led_at : (tree : Fragment) (chosen : Path) (k key : Key) (o p : Option Path) → k ≡ key → o ≡ p
-    → IsLed tree chosen k o → IsLed tree chosen key p
-led_at tree chosen k key o p e f h =
-    subst (λ (x : Option Path). IsLed tree chosen key x) f (subst (λ (x : Key). IsLed tree chosen x o) e h)
+pub led_at : (def : Definition) (tree : Fragment) (face : Face) (k key : Key) (o p : Option Path) → k ≡ key → o ≡ p
+    → IsLed def tree face k o → IsLed def tree face key p
+led_at def tree face k key o p e f h =
+    subst (λ (x : Option Path). IsLed def tree face key x) f (subst (λ (x : Key). IsLed def tree face x o) e h)
 
 pub spot_is : (t tree : Fragment) (chosen : Path) (k key : Key) (o p : Option Spot) → t ≡ tree → k ≡ key
     → o ≡ spot_for t chosen k → o ≡ p → spot_for tree chosen key ≡ p
@@ -235,12 +236,14 @@ own_so (keys.Char c) w r x p = four (c == 110) (c == 78) (c == 114) (c == 119) w
 own_so _ w r x p = p
 
 module _ (def : Definition) (kind : Kind) (tree : Fragment) (page : List (List ℕ)) (d : Desk) (before after : Outside) (stroke : Spelled) where
-  by_led : (b : Bool) (path : Path) → is_page_key stroke.key ≡ b → IsLedBy tree d.face.chosen stroke.key b (Some path)
+  by_led : (b : Bool) (path : Path) → is_page_key stroke.key ≡ b → IsLedBy def tree d.face stroke.key b (Some path)
       → after ≡ before → Browses def kind tree page d before after stroke (with_face d (choosing path d.face))
-  by_led true path e h same = keyed.pages e h same
+  by_led true path e h same =
+      subst (λ (x : Path). Browses def kind tree page d before after stroke (with_face d (choosing x d.face)))
+      (sym (same_Some _ _ h)) (keyed.pages e same)
   by_led false path e h same = keyed.moves (sym h) same
 
-  pub led_so : (path : Path) (e : Desk) → IsLed tree d.face.chosen stroke.key (Some path) → after ≡ before
+  pub led_so : (path : Path) (e : Desk) → IsLed def tree d.face stroke.key (Some path) → after ≡ before
       → e ≡ with_face d (choosing path d.face) → Browses def kind tree page d before after stroke e
   led_so path e h same is =
       subst (λ (x : Desk). Browses def kind tree page d before after stroke x) (sym is)
@@ -292,12 +295,12 @@ module _ (def : Definition) (kind : Kind) (tree : Fragment) (page : List (List �
       (subst (λ (x : Key). GoesWrong def tree (is_forward x) d e) at is)
 
   pub others_so : (k : Key) → k ≡ stroke.key → (e : Desk) → is_wrong_key k ≡ false → is_letter 114 k ≡ false
-      → is_letter 119 k ≡ false → IsLed tree d.face.chosen stroke.key None
+      → is_letter 119 k ≡ false → IsLed def tree d.face stroke.key None
       → spot_for tree d.face.chosen stroke.key ≡ None → after ≡ before
       → e ≡ with_face d (browsed def tree (is_changed def tree d) page d.face stroke.key stroke.bytes)
       → Browses def kind tree page d before after stroke e
   others_so k at e w r x no_led no_spot same is =
-      let p = is_page (is_page_key stroke.key) stroke.key tree d.face.chosen refl no_led in
+      let p = is_page (is_page_key stroke.key) stroke.key def tree d.face refl no_led in
       subst (λ (y : Desk). Browses def kind tree page d before after stroke y) (sym is)
       (keyed.others (own_so stroke.key (sym (ap is_wrong_key at) ∙ w) (sym (ap (is_letter 114) at) ∙ r) (sym (ap (is_letter 119) at) ∙ x) p.0) p.1 no_spot same)
 

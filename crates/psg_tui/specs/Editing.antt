@@ -46,8 +46,8 @@ pub record IsOfSame (old new : Editing) : Type 0 where
   pub title : new.title ≡ old.title
   pub writes : new.writes ≡ old.writes
 
--- What a key that is no command leaves: the program, and how many versions there are. What is known of the program stays
--- true.
+-- What a key that is no command leaves: the program, and how many versions there are. What is known of the program
+-- stays true.
 pub record IsOfProgram (old new : Editing) : Type 0 where
   pub session : new.session ≡ old.session
   pub kind : new.kind ≡ old.kind
@@ -56,7 +56,7 @@ pub record IsOfProgram (old new : Editing) : Type 0 where
   pub versions : new.versions ≡ old.versions
   pub at : (tree : Fragment) → IsAt old tree → IsAt new tree
 
--- all is as before, but for what is known of the program, and what is shown of the face
+-- all is as before, except what is known of the program, and what is shown of the face
 pub record IsAsBefore (old new : Editing) : Type 0 where
   pub program : IsOfProgram old new
   pub file : new.file ≡ old.file

@@ -9,30 +9,29 @@ use Rattle.psg_grammar.specs.Marks as marks
 use Rattle.psg_grammar.specs.Paths.{Path}
 use Rattle.psg_keys.specs.declared.key.Key.{Key}
 use Rattle.psg_keys.specs.declared.key.Key.TheVariants as keys
-use Rattle.psg_face.specs.Moves.{leads}
 use Rattle.psg_keymap.specs.declared.face.Why.{Why as KeptWhy}
 use Rattle.psg_keymap.specs.declared.repair.Repair.{Repair}
-use Rattle.psg_keymap.specs.Faces.{Why, nothing_wrong, of_parts, wrong}
+use Rattle.psg_keymap.specs.Faces.{Face, Why, nothing_wrong, of_parts, wrong}
 use Rattle.psg_keymap.specs.Repairs.{IsRepairOf, IsUnknown, place_path}
 use Rattle.psg_keymap.specs.Views.{why_of}
-use Rattle.psg_modes.specs.Turning.{choosing, is_page_key, led, saying}
+use Rattle.psg_modes.specs.Turning.{choosing, is_page_key, led, page_path, saying}
 use Rattle.psg_modes.specs.Wrong.{next_of, why_at}
 use Rattle.psg_places.specs.declared.place.Place.{Place}
-use Rattle.psg_tui.specs.Pressing.{Desk, with_face}
+use Rattle.psg_unparse.specs.Spans.{printed_of}
+use Rattle.psg_tui.specs.Pressing.{Desk, is_down, with_face}
 
 -- the key is this letter
 abbrev pub is_letter : ℕ → Key → Bool
 is_letter letter (keys.Char c) = c == letter
 is_letter letter _ = false
 
--- where a key leads: a key of pages to a place, where the chosen path leads to one
-abbrev pub IsLedBy : Fragment → Path → Key → Bool → Option Path → Type 0
-IsLedBy tree chosen key true None = ⊥
-IsLedBy tree chosen key true (Some path) = leads tree chosen ≡ true → leads tree path ≡ true
-IsLedBy tree chosen key false found = found ≡ led tree chosen key
+-- where a key leads: a key of pages by the lines of the text
+abbrev pub IsLedBy : Definition → Fragment → Face → Key → Bool → Option Path → Type 0
+IsLedBy def tree f key true found = found ≡ Some (page_path (printed_of def tree) f (is_down key))
+IsLedBy def tree f key false found = found ≡ led tree f.chosen key
 
-abbrev pub IsLed : Fragment → Path → Key → Option Path → Type 0
-IsLed tree chosen key found = IsLedBy tree chosen key (is_page_key key) found
+abbrev pub IsLed : Definition → Fragment → Face → Key → Option Path → Type 0
+IsLed def tree f key found = IsLedBy def tree f key (is_page_key key) found
 
 -- a path, and what is wrong there
 abbrev pub seen_of : Path × KeptWhy → Path × Why
@@ -51,7 +50,8 @@ pub data IsWrongFound (def : Definition) (tree : Fragment) (chosen : Path) (forw
     : Option (Path × Why) → Type 0 where
   blamed : {found : Option (Path × Why)} (r : Repair) → IsRepairOf def tree r
       → IsBlamedFound tree r.places.items chosen forward found → IsWrongFound def tree chosen forward found
-  culprit : (paths : List Path) (path : Path) → IsMarkBy (IsCompletable def) tree (marks.wrong paths) → IsUnknown def tree
+  culprit : (paths : List Path) (path : Path) → IsMarkBy (IsCompletable def) tree (marks.wrong paths)
+      → IsUnknown def tree
       → next_of paths chosen forward ≡ Some path → IsWrongFound def tree chosen forward (Some (path, of_parts))
 
 -- what there is beside the program where it was found

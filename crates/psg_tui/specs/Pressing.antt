@@ -1,5 +1,6 @@
 -- The promise of a key: at most one command, done as the plain editor does it.
-use Rattle.std.specs.Prelude.{ℕ, ◌≡◌, ◌+◌, ◌-◌, ◌^◌, ◌==◌, ◌&&◌, ◌++◌, Bool, true, false, cond, List, [], ◌∷◌, Option, min}
+use Rattle.std.specs.Prelude.{ℕ, ◌≡◌, ◌+◌, ◌-◌, ◌^◌, ◌==◌, ◌&&◌, ◌++◌, Bool}
+use Rattle.std.specs.Prelude.{true, false, cond, List, [], ◌∷◌, Option, min}
 use Rattle.std.specs.Prelude.{Some, None, IfSome, Ok, Err, bytes_eq, not, option_map, map}
 use Rattle.std.specs.FinMap as files
 use Rattle.psg_terms.specs.Names.{Name}
@@ -21,7 +22,7 @@ use Rattle.psg_program.specs.Formatted.{formatted as formatted_of}
 use Rattle.psg_unparse.specs.Layout.{text_of}
 use Rattle.psg_unparse.specs.Spans.{printed_of}
 use Rattle.psg_world.specs.Files.{bytes_of, reading, writing}
-use Rattle.psg_face.specs.Moves.{as_far, leads}
+use Rattle.psg_face.specs.Moves.{as_far}
 use Rattle.psg_face.specs.Opens.{open_below}
 use Rattle.psg_script.specs.declared.command.Command.{Command}
 use Rattle.psg_session.specs.PlainState.{State, Opened}
@@ -42,7 +43,7 @@ use Rattle.psg_keymap.specs.Spots.{spot_for}
 use Rattle.psg_keymap.specs.declared.table.Due.{Due}
 use Rattle.psg_keymap.specs.Table.{command_of, is_save, is_undo, putting}
 use Rattle.psg_modes.specs.Turning.{browsed, choosing, chosen_key, is_own_key, is_page_key, is_wrong_key, led, line_key}
-use Rattle.psg_modes.specs.Turning.{named_key, naming, no_key_of, offering, paged_key, paging, saying, sized}
+use Rattle.psg_modes.specs.Turning.{named_key, naming, no_key_of, offering, page_path, paged_key, paging, saying, sized}
 use Rattle.psg_modes.specs.Wrong.{is_forward, next_of, why_at}
 use Rattle.psg_asking.specs.Asked.{IsToldOf, Read, menu_of, names_of, relation_of}
 use Rattle.psg_asking.specs.Putting.{IsTextOf}
@@ -119,6 +120,11 @@ pub data IsNotThere (before middle : Outside) (name : Name) : Type 0 where
   is_unread : middle.held ≡ before.held → middle.entries ≡ before.entries ++ reading name ∷ []
       → IsNotThere before middle name
 
+-- Page Down, and not Page Up
+abbrev pub is_down : Key → Bool
+is_down keys.PageDown = true
+is_down _ = false
+
 -- the modes in which Enter puts an operator
 abbrev pub is_putting : Mode → Bool
 is_putting modes.Choosing = true
@@ -130,7 +136,13 @@ module _ (def : Definition) (kind : Kind) (tree : Fragment) (page : List (List �
   pub data IsWritten (d : Desk) (name : Name) (before after : Outside) : Desk → Type 0 where
     done : after.held ≡ option_map (λ held. files.insert held name (formatted_of def tree)) before.held
         → after.entries ≡ before.entries
-        → IsWritten d name before after (record { face = saying written (in_mode modes.Browsing d.face); file = Some name; saved = text_of def tree; versions = d.versions; writes = d.writes })
+        → IsWritten d name before after (record {
+          face = saying written (in_mode modes.Browsing d.face);
+          file = Some name;
+          saved = text_of def tree;
+          versions = d.versions;
+          writes = d.writes;
+        })
     failed : after.held ≡ before.held → after.entries ≡ before.entries ++ writing name ∷ []
         → IsWritten d name before after (with_face d (saying not_written (in_mode modes.Browsing d.face)))
 
@@ -156,14 +168,13 @@ module _ (def : Definition) (kind : Kind) (tree : Fragment) (page : List (List �
     culprit : (paths : List Path) (found : Path) → IsMarkBy (IsCompletable def) tree (marks.wrong paths)
         → IsUnknown def tree → next_of paths path forward ≡ Some found → IsNextWrong path forward found of_parts
 
-  -- A key while a place is chosen. Of Page Up and Page Down it is said that they lead to a place, where the chosen path
-  -- leads to one.
+  -- A key while a place is chosen.
   pub data Browses (d : Desk) (before after : Outside) : Spelled → Desk → Type 0 where
     moves : {stroke : Spelled} {path : Path} → led tree d.face.chosen stroke.key ≡ Some path → after ≡ before
         → Browses d before after stroke (with_face d (choosing path d.face))
-    pages : {stroke : Spelled} {path : Path} → is_page_key stroke.key ≡ true
-        → (leads tree d.face.chosen ≡ true → leads tree path ≡ true) → after ≡ before
-        → Browses d before after stroke (with_face d (choosing path d.face))
+    pages : {stroke : Spelled} → is_page_key stroke.key ≡ true → after ≡ before
+        → Browses d before after stroke
+        (with_face d (choosing (page_path (printed_of def tree) d.face (is_down stroke.key)) d.face))
     offers : {stroke : Spelled} {spot : Spot} (told : Option Read)
         → spot_for tree d.face.chosen stroke.key ≡ Some spot → IsToldOf def kind tree spot menu_of words_told told
         → after ≡ before → Browses d before after stroke (with_face d (offered d.face spot told))
@@ -181,9 +192,11 @@ module _ (def : Definition) (kind : Kind) (tree : Fragment) (page : List (List �
         → after ≡ before → Browses d before after stroke (with_face d (related front d.face told))
     writes : {stroke : Spelled} {e : Desk} → stroke.key ≡ keys.Char 119 → Writes d before after e
         → Browses d before after stroke e
-    others : {stroke : Spelled} → is_own_key stroke.key ≡ false → led tree d.face.chosen stroke.key ≡ None → spot_for tree d.face.chosen stroke.key ≡ None
+    others : {stroke : Spelled} → is_own_key stroke.key ≡ false → led tree d.face.chosen stroke.key ≡ None
+        → spot_for tree d.face.chosen stroke.key ≡ None
         → after ≡ before
-        → Browses d before after stroke (with_face d (browsed def tree (is_changed def tree d) page d.face stroke.key stroke.bytes))
+        → Browses d before after stroke
+        (with_face d (browsed def tree (is_changed def tree d) page d.face stroke.key stroke.bytes))
 
   -- A key while an operator is chosen: Enter at one that has names and literals asks for the names that fit, of which
   -- those are offered that occur in the program.
@@ -196,15 +209,18 @@ module _ (def : Definition) (kind : Kind) (tree : Fragment) (page : List (List �
 
   -- a key while the name of a file is typed: Enter writes it, or asks where it is there already
   pub data Saves (d : Desk) (before after : Outside) : Key → Desk → Type 0 where
-    types : {key : Key} → (key ≡ keys.Enter → ⊥) → after ≡ before → Saves d before after key (with_face d (line_key d.face key))
-    leaves : typed_text d.face ≡ [] → after ≡ before → Saves d before after keys.Enter (with_face d (in_mode modes.Browsing d.face))
+    types : {key : Key} → (key ≡ keys.Enter → ⊥) → after ≡ before
+        → Saves d before after key (with_face d (line_key d.face key))
+    leaves : typed_text d.face ≡ [] → after ≡ before
+        → Saves d before after keys.Enter (with_face d (in_mode modes.Browsing d.face))
     asks : after ≡ before → IfSome before.held (λ held. bytes_of held (typed_text d.face) ≡ [] → ⊥)
         → Saves d before after keys.Enter (with_face d (record d.face { mode = modes.Replacing }))
     saves : {middle : Outside} {e : Desk} → IsNotThere before middle (typed_text d.face)
         → IsWritten d (typed_text d.face) middle after e → Saves d before after keys.Enter e
 
   pub data Replaces (d : Desk) (before after : Outside) : Key → Desk → Type 0 where
-    writes_over : {e : Desk} → IsWritten d (typed_text d.face) before after e → Replaces d before after (keys.Char 119) e
+    writes_over : {e : Desk} → IsWritten d (typed_text d.face) before after e
+        → Replaces d before after (keys.Char 119) e
     goes_back : {key : Key} → (key ≡ keys.Char 119 → ⊥) → after ≡ before
         → Replaces d before after key (with_face d (in_mode modes.Browsing d.face))
 
@@ -238,15 +254,16 @@ module _ (def : Definition) (kind : Kind) (tree : Fragment) (page : List (List �
 
   -- ---- a key
 
-  -- When a key is the command of the table: where no operator is put, where the program has a completion, and where there
-  -- is no text of the operator.
+  -- When a key is the command of the table: where no operator is put, where the program has a completion, and where
+  -- there is no text of the operator.
   pub data IsOfTable (f : Face) (key : Key) : Type 0 where
     no_operator : is_putting f.mode ≡ false → IsOfTable f key
     none : command_of def tree f key ≡ None → IsOfTable f key
     completable : IsCompletable def tree → IsOfTable f key
     no_text : (op : Name) (args : List ℕ) → command_of def tree f key ≡ Some (putting f.target f.place op args)
         → (IsCompletable def tree → ⊥)
-        → IsTextOf def kind tree (printed_of def tree).spans (record { target = f.target; place = f.place }) op args None
+        → IsTextOf def kind tree (printed_of def tree).spans
+        (record { target = f.target; place = f.place }) op args None
         → IsOfTable f key
 
   -- Which command a key is: the one of the table; where it would put an operator into a wrong program, the text of the
@@ -271,24 +288,28 @@ versions_after command (replies.refused refusal) n = n
 versions_after command (replies.answered lines) n = versions_done command n
 
 -- Where it is no command, the program is as it was; else it is that of the plain editor after the command. Undo goes
--- back to the program with which the editor began: before it is the empty one from which a file was read.
-abbrev pub Does : Definition → Kind → List (List ℕ) → Desk → Desk → State → State → Fragment → Fragment → Spelled → Outside → Outside → ℕ → ℕ
+-- back to the program with which the editor began: before it is the empty one from which a file was read. How far the
+-- counter goes at a key is not said: it may be asked more than the command.
+abbrev pub Does : Definition → Kind → List (List ℕ) → Desk → Desk → State → State → Fragment → Fragment → Spelled
+    → Outside → Outside
     → Option Due → Type 0
-Does def kind page d e s t old new stroke before after from to None =
+Does def kind page d e s t old new stroke before after None =
     (t ≡ s) × Turns def kind old page d before after stroke stroke.key e
-Does def kind page d e s t old new stroke before after from to (Some due) =
+Does def kind page d e s t old new stroke before after (Some due) =
     cond (is_undo due.command && (d.versions == 0))
     ((t ≡ s) × (e ≡ with_face d (saying (refused (number_of refusals.NothingEarlier)) d.face)) × (after ≡ before))
-    ((middle : ℕ) × (reply : Reply) × HasApplied def s t due.command before after middle to reply
-    × (e ≡ record (with_face d (command_face new d.face due reply)) { versions = versions_after due.command reply d.versions }))
+    ((from to : ℕ) × (reply : Reply) × HasApplied def s t due.command before after from to reply
+    × (e ≡ record (with_face d (command_face new d.face due reply))
+    { versions = versions_after due.command reply d.versions }))
 
 -- A key: either it is no command, and the program is as it was; or it is one command, and the program is that of the
 -- plain editor after it, with its reply.
-pub record Presses (def : Definition) (kind : Kind) (page : List (List ℕ)) (d e : Desk) (s t : State) (old new : Fragment)
-    (stroke : Spelled) (before after : Outside) (from to : ℕ) : Type 0 where
+pub record Presses (def : Definition) (kind : Kind) (page : List (List ℕ)) (d e : Desk) (s t : State)
+    (old new : Fragment)
+    (stroke : Spelled) (before after : Outside) : Type 0 where
   pub opened : IsOpened s kind old
   pub opens : IsOpened t kind new
   pub due : Option Due
   pub is_due : IsDue def kind old page d.face stroke.key due
-  pub pressed : Does def kind page d e s t old new stroke before after from to due
+  pub pressed : Does def kind page d e s t old new stroke before after due
   pub faced : IsFace old d.face → IsFace new e.face

@@ -6,7 +6,7 @@ use Rattle.psg_tui.specs.Editing.{IsAt, IsOfProgram}
 use Rattle.psg_tui.specs.Showing.{unscrolled}
 use Rattle.psg_tui.specs.Views.{shown_face}
 
--- all is as before, but for what is known of the program, and where the window is
+-- all is as before, except what is known of the program, and where the window is
 pub record IsScrolled (old new : Editing) : Type 0 where
   pub program : IsOfProgram old new
   pub file : new.file ≡ old.file

@@ -53,8 +53,8 @@ programmed_of f around text marks =
 
 -- The picture of a program and a face. The chosen place is marked. A program without a completion has wrong places that
 -- are marked, another one has none. In front of the program's rows there may be those of a page; else the face is
--- scrolled from `old`, so that the chosen place is shown. The words of the rows around the program and the colors of its
--- text are not stated here.
+-- scrolled from `old`, so that the chosen place is shown. The words of the rows around the program and the colors of
+-- its text are not stated here.
 pub record Shows (def : Definition) (f : Fragment) (old new : Face) (p : Picture) : Type 0 where
   pub around : Around
   pub marks : Marks

@@ -27,7 +27,8 @@ use psg_tree::{Path, Tree};
 use std::alloc::{AllocError, Global};
 use std::sync::ledger::Ledger;
 
-/// What an editor on the screen keeps: a session in which a program is opened, a face, and what is known of the program.
+/// What an editor on the screen keeps: a session in which a program is opened, a face, and what is known of the
+/// program.
 #[derive(Drop)]
 pub struct Editing {
     pub(crate) session: Session,

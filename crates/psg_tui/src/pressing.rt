@@ -184,8 +184,7 @@ impl Editing {
         ensures pressed { OnOk result ((old : Fragment) → IsAt self.old old → (new : Fragment) × IsAt self.new new
             × Presses self.old.session.language self.old.kind key_lines (desk_of old self.old) (desk_of new self.new)
             (state_of self.old.session.editor) (state_of self.new.session.editor) old new stroke.now
-            (outside (F.holds files.old) (F.faults files.old)) (outside (F.holds files.new) (F.faults files.new))
-            steps.old steps.new) }
+            (outside (F.holds files.old) (F.faults files.old)) (outside (F.holds files.new) (F.faults files.new))) }
         ensures same { IsOfSame self.old self.new }
         ensures memory { OnErr result (IsAsBefore self.old self.new × (F.holds files.new ≡ F.holds files.old)) }
         ensures editing { IsEditing self.new }
@@ -213,7 +212,7 @@ impl Editing {
             × Does self.old.session.language self.old.kind key_lines (desk self.old) (desk_of new self.new)
             (state_of self.old.session.editor) (state_of self.new.session.editor) old new stroke.now
             (outside (F.holds files.old) (F.faults files.old)) (outside (F.holds files.new) (F.faults files.new))
-            steps.old steps.new due) }
+            due) }
         ensures same { IsOfSame self.old self.new }
         ensures memory { OnErr result (IsAsBefore self.old self.new × (F.holds files.new ≡ F.holds files.old)) }
         ensures editing { IsEditing self.new }
@@ -356,7 +355,7 @@ impl Editing {
             × Does self.old.session.language self.old.kind key_lines (desk self.old) (desk_of new self.new)
             (state_of self.old.session.editor) (state_of self.new.session.editor) old new stroke
             (outside (F.holds files.old) (F.faults files.old)) (outside (F.holds files.new) (F.faults files.new))
-            steps.old steps.new (Some due)) }
+            (Some due)) }
         ensures same { IsOfSame self.old self.new }
         ensures memory { OnErr result ((self.new ≡ self.old) × (F.holds files.new ≡ F.holds files.old)) }
         ensures editing { IsEditing self.new }
@@ -385,7 +384,7 @@ impl Editing {
             × Does self.old.session.language self.old.kind key_lines (desk self.old) (desk_of new self.new)
             (state_of self.old.session.editor) (state_of self.new.session.editor) old new stroke
             (outside (F.holds files.old) (F.faults files.old)) (outside (F.holds files.new) (F.faults files.new))
-            steps.old steps.new (Some (record { command = command.now; grown = grown }))) }
+            (Some (record { command = command.now; grown = grown }))) }
         ensures same { IsOfSame self.old self.new }
         ensures memory { OnErr result ((self.new ≡ self.old) × (F.holds files.new ≡ F.holds files.old)) }
         ensures editing { IsEditing self.new }

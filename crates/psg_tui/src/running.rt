@@ -1,11 +1,16 @@
 //! A run of the editor: from pieces of an input to pictures.
-ghost use Rattle.std.specs.Prelude.{◌≡◌, IfErr, IfOk, OnOk, string_bytes};
+ghost use Rattle.std.specs.Prelude.{◌≡◌, IfErr, IfOk, None, OnErr, OnOk, [], cond, false, true, string_bytes};
 ghost use Rattle.std.specs.Io.KnownBytes.{append_known};
 ghost use Rattle.std.specs.Option.{option_copied};
 ghost use Rattle.psg_canvas.specs.Drawing.{Draws};
+ghost use Rattle.psg_keys.specs.Reading.{at_first};
 ghost use Rattle.psg_tui.specs.Editing.{IsOfSame};
-ghost use Rattle.psg_tui.specs.Running.{Grows, IsLeft, IsOfWriting};
+ghost use Rattle.psg_tui.specs.Running as running;
+ghost use Rattle.psg_tui.specs.Running.{AreCut, AreDrawn, HasRun, IsCut, IsDrawn, IsLeft, IsOfWriting, IsPictureOf};
+ghost use Rattle.psg_tui.specs.Running.{Runs, Takes, TakesAll, Writes, scene};
 ghost use Rattle.psg_tui.specs.Scrolled.{IsScrolled};
+ghost use Rattle.psg_tui.specs.Views.{outside};
+ghost use Rattle.psg_world.specs.Sinks.{TakesFront};
 
 use crate::tui::Tui;
 use psg_canvas::{Picture, draw, enter, leave};
@@ -20,8 +25,11 @@ use std::sync::ledger::Ledger;
 pub enum Ending {
     /// By `q`, or by the end of the input.
     Done,
+    /// By a read of the input that failed.
     ReadFault,
+    /// By a write that failed.
     WriteFault,
+    /// Since memory ran out.
     Memory,
 }
 
@@ -38,6 +46,9 @@ pub fn run<F: Files, P: Pieces, O: Sink, L: Ledger>(
     out: &mut O,
     steps: &mut Steps<L>,
 ) -> Ending
+    ensures ran { HasRun
+        (scene tui.old (outside (F.holds files.old) (F.faults files.old)) None at_first (P.left input.old))
+        (O.written out.old) result tui.new (outside (F.holds files.new) (F.faults files.new)) (O.written out.new) }
     ensures left { IsLeft result (O.written out.old) (O.written out.new) }
     ensures same { IsOfSame tui.old tui.new }
 {
@@ -62,12 +73,14 @@ fn turns<F: Files, P: Pieces, O: Sink, L: Ledger>(
     out: &mut O,
     steps: &mut Steps<L>,
 ) -> Ending
-    ensures grows { Grows (O.written out.old) (O.written out.new) }
+    ensures ran { Writes (O.written out.old) (O.written out.new)
+        (Runs 0 (scene tui.old (outside (F.holds files.old) (F.faults files.old)) None at_first (P.left input.old))
+        result tui.new (outside (F.holds files.new) (F.faults files.new))) }
     ensures same { IsOfSame tui.old tui.new }
 {
     let mut reader = KeyReader::new(alloc);
     let mut shown = None;
-    'turns: for _ in 0..u64::MAX {
+    'turns: for turn in 0..u64::MAX {
         shown = match drawn(alloc, tui, files, shown, out, steps) {
             Ok(picture) => picture,
             Err(fault) => return fault,
@@ -76,17 +89,17 @@ fn turns<F: Files, P: Pieces, O: Sink, L: Ledger>(
             Ok(piece) => piece,
             Err(stop) => return ending_of(stop),
         };
-        if is_last(piece.as_slice()) {
+        let bytes = piece.as_slice();
+        if is_last(bytes) {
             return Ending::Done;
         }
-        let strokes = match reader.read(alloc, piece.as_slice()) {
+        let strokes = match reader.read(alloc, bytes) {
             Ok(strokes) => strokes,
             Err(_) => return Ending::Memory,
         };
-        if redraws(strokes.as_slice()) {
-            shown = None;
-        }
-        press_all(alloc, tui, strokes.as_slice(), files, steps);
+        let keys = strokes.as_slice();
+        shown = left_by(keys, shown);
+        press_all(alloc, tui, keys, files, steps);
         if tui.is_ended() {
             return Ending::Done;
         }
@@ -95,7 +108,9 @@ fn turns<F: Files, P: Pieces, O: Sink, L: Ledger>(
 }
 
 /// Returns how a run ends where a read stops.
-fn ending_of(stop: ReadStop) -> Ending {
+fn ending_of(stop: ReadStop) -> Ending
+    ensures { running.IsOfReading result }
+{
     match stop {
         ReadStop::Failed => Ending::ReadFault,
         ReadStop::Memory => Ending::Memory,
@@ -103,19 +118,43 @@ fn ending_of(stop: ReadStop) -> Ending {
 }
 
 /// Says whether the input is at its end.
-fn is_last(piece: &[u8]) -> bool {
+fn is_last(piece: &[u8]) -> bool
+    ensures last { result ≡ true → piece.now ≡ [] }
+    ensures more { result ≡ false → piece.now ≡ [] → ⊥ }
+{
     piece.is_empty()
 }
 
-/// Says whether all is to be drawn anew: at Ctrl-L, and where the screen has another size, the terminal may show
+/// Says whether all is to be drawn again: at Ctrl-L, and where the screen has another size, the terminal may show
 /// anything.
-fn redraws(strokes: &[Stroke]) -> bool {
+fn redraws(strokes: &[Stroke]) -> bool
+    ensures { result ≡ running.redraws strokes.now }
+{
     for number in 0..strokes.len() {
-        if let Key::Control('l') | Key::Size { .. } = strokes[number].key() {
+        let redraws = is_redrawing(strokes[number].key());
+        if redraws {
             return true;
         }
     }
     false
+}
+
+fn is_redrawing(key: Key) -> bool
+    ensures { result ≡ running.is_redrawing key }
+{
+    match key {
+        Key::Control(letter) => letter == 'l',
+        Key::Size { .. } => true,
+        _ => false,
+    }
+}
+
+/// Returns what is known to be shown after the keys.
+fn left_by(strokes: &[Stroke], shown: Option<Picture>) -> Option<Picture>
+    ensures { result ≡ cond (running.redraws strokes.now) None shown }
+{
+    let redraws = redraws(strokes);
+    if redraws { None } else { shown }
 }
 
 /// Presses the keys, up to one that ends the editor. Where there is no memory for one, a line says so.
@@ -126,7 +165,9 @@ fn press_all<F: Files, L: Ledger>(
     files: &mut F,
     steps: &mut Steps<L>,
 )
-    ensures { IsOfSame tui.old tui.new }
+    ensures taken { TakesAll strokes.now tui.old (outside (F.holds files.old) (F.faults files.old)) tui.new
+        (outside (F.holds files.new) (F.faults files.new)) }
+    ensures same { IsOfSame tui.old tui.new }
 {
     for number in 0..strokes.len() {
         press_one(alloc, tui, &strokes[number], files, steps);
@@ -141,7 +182,9 @@ fn press_one<F: Files, L: Ledger>(
     files: &mut F,
     steps: &mut Steps<L>,
 )
-    ensures { IsOfSame tui.old tui.new }
+    ensures taken { Takes stroke.now tui.old (outside (F.holds files.old) (F.faults files.old)) tui.new
+        (outside (F.holds files.new) (F.faults files.new)) }
+    ensures same { IsOfSame tui.old tui.new }
 {
     if tui.is_ended() {
         return;
@@ -161,7 +204,10 @@ fn drawn<F: Files, O: Sink, L: Ledger>(
     out: &mut O,
     steps: &mut Steps<L>,
 ) -> Result<Option<Picture>, Ending>
-    ensures grows { Grows (O.written out.old) (O.written out.new) }
+    ensures drawn { IfOk result (λ now. Writes (O.written out.old) (O.written out.new)
+        (AreDrawn tui.old tui.new shown now)) }
+    ensures cut { IfErr result (λ ending. IsOfWriting ending
+        × Writes (O.written out.old) (O.written out.new) (AreCut tui.old tui.new shown)) }
     ensures same { IsOfSame tui.old tui.new }
     ensures files { (F.holds files.new ≡ F.holds files.old) × (F.faults files.new ≡ F.faults files.old) }
 {
@@ -180,7 +226,10 @@ fn show<O: Sink>(
     shown: Option<Picture>,
     out: &mut O,
 ) -> Result<Option<Picture>, Ending>
-    ensures grows { Grows (O.written out.old) (O.written out.new) }
+    ensures drawn { IfOk result (λ now. Writes (O.written out.old) (O.written out.new)
+        (IsDrawn tui.old tui.new shown now)) }
+    ensures cut { IfErr result (λ ending. IsOfWriting ending
+        × Writes (O.written out.old) (O.written out.new) (IsCut tui.old tui.new shown)) }
     ensures same { IsOfSame tui.old tui.new }
 {
     match next_picture(alloc, tui, shown.as_ref()) {
@@ -198,6 +247,7 @@ fn next_picture(
     tui: &mut Tui,
     shown: Option<&Picture>,
 ) -> Result<(Picture, String), AllocError>
+    ensures picture { IfOk result (λ r. IsPictureOf tui.old tui.new r.0) }
     ensures draws { IfOk result (λ r. Draws (option_copied shown.entry) r.0 (string_bytes r.1)) }
     ensures left { IsScrolled tui.old tui.new }
 {
@@ -209,7 +259,7 @@ fn next_picture(
 /// Writes the text.
 fn put<O: Sink>(alloc: Global, out: &mut O, text: &str) -> Result<(), Ending>
     ensures all { OnOk result (O.written out.new ≡ append_known (O.written out.old) text.now) }
-    ensures grows { Grows (O.written out.old) (O.written out.new) }
+    ensures front { OnErr result (TakesFront (O.written out.old) text.now (O.written out.new)) }
     ensures fault { IfErr result IsOfWriting }
 {
     match put_all(alloc, out, text.as_bytes()) {

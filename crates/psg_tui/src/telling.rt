@@ -93,7 +93,7 @@ fn show_lines(
     }
 }
 
-/// Returns the names that were told; none where it was refused, and where no program is asked.
+/// Returns the names that were given; none where it was refused, and where no program is asked.
 pub(crate) fn told_names(alloc: Global, told: Option<Result<Vec<String>, Refusal>>) -> Vec<String>
     ensures { map string_bytes result.items ≡ named_by (option_map read_of told) }
 {

@@ -28,7 +28,7 @@ pub struct Tui {
     editing: Editing,
 }
 
-// written out, so that it is proved once, and not anew in each crate where such a value is let go
+// written out, so that it is proved once, and not again in each crate where such a value is let go
 impl Drop for Tui {
     fn drop(self) {
         let Tui { editing } = self;
@@ -115,8 +115,7 @@ impl Tui {
         ensures pressed { IfOk result (λ _. (old new : Fragment) × IsAt self.old old × IsAt self.new new
             × Presses self.old.session.language self.old.kind key_lines (desk_of old self.old) (desk_of new self.new)
             (state_of self.old.session.editor) (state_of self.new.session.editor) old new stroke.now
-            (outside (F.holds files.old) (F.faults files.old)) (outside (F.holds files.new) (F.faults files.new))
-            steps.old steps.new) }
+            (outside (F.holds files.old) (F.faults files.old)) (outside (F.holds files.new) (F.faults files.new))) }
         ensures same { IsOfSame self.old self.new }
         ensures memory { OnErr result (IsAsBefore self.old self.new × (F.holds files.new ≡ F.holds files.old)) }
     {

@@ -12,10 +12,11 @@ ghost use Rattle.psg_tui.specs.declared.editing.Aim.TheVariants as aims;
 ghost use Rattle.psg_tui.specs.Editing.{IsAt, IsEditing, IsOfProgram, IsTried, IsUntouched, is_wrong};
 ghost use Rattle.psg_tui.specs.Found as found;
 ghost use Rattle.psg_tui.specs.Found.{GoesWrong, IsBlamedFound, IsLed, IsWrongFound, seen_of};
-ghost use Rattle.psg_tui.specs.Pressing.{Browses, Chooses, Turns, TurnsIn, is_changed, named_by, offered, related, with_face};
+ghost use Rattle.psg_tui.specs.Pressing.{Browses, Chooses, Turns, TurnsIn, is_changed};
+ghost use Rattle.psg_tui.specs.Pressing.{named_by, offered, related, with_face};
 ghost use Rattle.psg_tui.specs.Views.{desk, face_of, outside};
 
-use crate::editing::{Editing, formed, note_of};
+use crate::editing::{Editing, note_of};
 use crate::telling::{show_menu, show_rows, told_names};
 use psg_asking::{menu_at, names_at, relation_at};
 use psg_keymap::{Message, Mode, Repair, Spot, Why, copied, spot_for};
@@ -131,9 +132,8 @@ impl Editing {
         requires editing { IsEditing self.now }
         requires settled { self.now.aim ≡ aims.Settled }
         ensures { IfOk result (λ path. (tree : Fragment) → IsAt self.now tree
-            → IsLed tree self.now.face.chosen key path) }
+            → IsLed self.now.session.language tree (face_of self.now.face) key path) }
     {
-        formed(&self.session);
         match key {
             Key::PageDown => {
                 let path = led_by_lines(alloc, &self.shown.printed, &self.face, true)?;
@@ -164,7 +164,7 @@ impl Editing {
         requires editing { IsEditing self.old }
         requires settled { self.old.aim ≡ aims.Settled }
         ensures browsed { OnOk result ((tree : Fragment) → IsAt self.old tree
-            → IsLed tree self.old.face.chosen stroke.now.key None
+            → IsLed self.old.session.language tree (face_of self.old.face) stroke.now.key None
             → Browses self.old.session.language self.old.kind tree key_lines (desk self.old)
             (outside (F.holds files.old) (F.faults files.old)) (outside (F.holds files.new) (F.faults files.new))
             stroke.now (desk self.new)) }
@@ -217,7 +217,7 @@ impl Editing {
         requires editing { IsEditing self.old }
         requires settled { self.old.aim ≡ aims.Settled }
         ensures browsed { OnOk result ((tree : Fragment) → IsAt self.old tree
-            → IsLed tree self.old.face.chosen stroke.now.key None
+            → IsLed self.old.session.language tree (face_of self.old.face) stroke.now.key None
             → spots.spot_for tree self.old.face.chosen stroke.now.key ≡ None
             → Browses self.old.session.language self.old.kind tree key_lines (desk self.old)
             (outside (F.holds files.old) (F.faults files.old)) (outside (F.holds files.new) (F.faults files.new))

@@ -6,8 +6,8 @@ use Rattle.psg_run.proofs.ProgramFiles.{fault_told}
 use Rattle.psg_run.proofs.formatting.told_fault.Goals as goal
 
 pub returns-in_ok-text-in-Syntax : goal.returns-in_ok-text-in-Syntax
-returns-in_ok-text-in-Syntax c = λ def kind bytes faulty checks.
+returns-in_ok-text-in-Syntax c = λ def comment kind bytes comments own faulty checks.
     let e = c.in-Syntax.error in
-    fault_told def c.args.file.now kind bytes checks e _ (subst (IsProgramFault def kind bytes) c.in-Syntax.is faulty)
+    fault_told def comment c.args.file.now kind bytes comments own checks e _ (subst (IsProgramFault def kind own) c.in-Syntax.is faulty)
     (c.in_ok-text-in-Syntax.ensures
     ∙ ap (λ m. feed (error_line c.args.file.now e.place.line e.place.column m)) c.as_str.ensures.value)

@@ -1,6 +1,6 @@
 use Rattle.std.proofs.Common.{rules, ◌≡◌, inl, inr, refl}
 use Rattle.psg_specimen.specs.Texts.{refusal_text}
-use Rattle.psg_run.specs.Reading.{Defines, Nowhere, is_refused, no_room_for_definition, not_accepted}
+use Rattle.psg_run.specs.Reading.{Defines, Nowhere, is_refused, no_room_for_definition, not_acceptable}
 use Rattle.psg_run.specs.Worlds.{seen}
 use Rattle.psg_run.proofs.source.end_refused.Goals as goal
 
@@ -19,5 +19,5 @@ returns g c = λ bytes files input ticks read only.
           (seen files.held files.entries input ticks (g.O.Sink.written c.put_line.new.out) (g.O.Sink.faults c.put_line.new.out))
           c.put_line.result} (c.in_default.not-Memory memory)
       | inr (refusal, of) ↦ is_refused c.as_str.result.now
-          (not_accepted c.args.refused.now.definition c.args.refused.now.fault read only refusal line) (c.put_line.ensures files input ticks)
+          (not_acceptable c.args.refused.now.definition c.args.refused.now.fault read only refusal line) (c.put_line.ensures files input ticks)
     ]

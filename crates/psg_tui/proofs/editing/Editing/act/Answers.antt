@@ -9,7 +9,7 @@ command-requires-clause-keys g c =
 pub returns-in-Some-clause-done : goal.returns-in-Some-clause-done
 returns-in-Some-clause-done g c =
     on_ok_weaker c.command.result (λ h old at.
-    act_some c.args.self.now c.command.new.self old c.args.stroke.now _ _ c.args.steps.now c.command.new.steps c.args.due
+    act_some c.args.self.now c.command.new.self old c.args.stroke.now _ _ c.args.due
     c.in-Some.due c.in-Some.is (h c.args.stroke.now old at)) c.command.ensures.done
 
 pub returns-in-Some-clause-memory : goal.returns-in-Some-clause-memory
@@ -20,7 +20,7 @@ returns-in-Some-clause-memory g c =
 pub returns-in-None-clause-done : goal.returns-in-None-clause-done
 returns-in-None-clause-done g c =
     on_ok_weaker c.turn.result (λ h old at.
-    act_none c.args.self.now c.turn.new.self old c.args.stroke.now _ _ c.args.steps.now c.turn.new.steps c.args.due
+    act_none c.args.self.now c.turn.new.self old c.args.stroke.now _ _ c.args.due
     c.in-None.is c.turn.ensures.program c.turn.ensures.aim c.requires.settled at (h old at)) c.turn.ensures.turned
 
 pub returns-in-None-clause-same : goal.returns-in-None-clause-same

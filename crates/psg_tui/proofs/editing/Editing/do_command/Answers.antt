@@ -13,7 +13,7 @@ returns-then-first-clause-done g c =
       first_at c.args.self.now c.say_first.new.self c.say_first.ensures.left old at,
       first_so c.args.self.now c.say_first.new.self c.say_first.ensures.left c.requires.settled old
           (due_of c.args.command.now c.args.grown) (sym c.is_first-first.ensures ∙ c.if-first.true)
-          c.say_first.ensures.said stroke _ c.args.steps.now c.args.steps.now,
+          c.say_first.ensures.said stroke _,
     )
 
 pub returns-clause-done : goal.returns-clause-done
@@ -27,7 +27,7 @@ returns-clause-done g c =
       grown.0,
       grown.1,
       does_heard c.args.self.now c.hear.new.self c.apply.new.self c.hear.ensures.left old grown.0 stroke _ _
-          c.args.steps.now c.apply.new.steps c.args.steps.now due (reply_of c.in_ok-reply.reply)
+          c.args.steps.now c.apply.new.steps due (reply_of c.in_ok-reply.reply)
           (sym c.is_first-first.ensures ∙ c.if-first.false) c.in_ok-reply.ensures.applied
           (c.hear.ensures.heard grown.0 ∙ ap (λ x. heard grown.0 x due (desk c.args.self.now)) c.refusal_in-refused.ensures),
     )

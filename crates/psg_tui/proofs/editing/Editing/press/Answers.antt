@@ -59,9 +59,9 @@ returns-clause-pressed g c =
       r.1,
       press_from c.args.self.now c.begin_key.new.self c.due.new.self c.act.new.self c.in_ok-begin_key.ensures.left c.in_ok-begin_key.ensures.settled c.in_ok-due.ensures.left
           (same_then c.args.self.now c.due.new.self c.act.new.self (same_of c.args.self.now c.due.new.self (program_then c.args.self.now c.begin_key.new.self c.due.new.self c.in_ok-begin_key.ensures.left.program (program_known c.begin_key.new.self c.due.new.self c.in_ok-due.ensures.left))) c.in_ok-act.ensures.same) old r.0 at r.1 c.args.stroke.now _ _
-          c.args.steps.now c.act.new.steps c.in_ok-due.due c.in_ok-begin_key.ensures.formed c.formed.ensures c.key.result
+          c.in_ok-due.due c.in_ok-begin_key.ensures.formed c.formed.ensures c.key.result
           c.key.ensures (c.in_ok-due.ensures.due old (c.in_ok-begin_key.ensures.left.program.at old at)) _
-          (same_outside _ _ _ _ c.in_ok-due.ensures.files) c.due.new.steps r.2,
+          (same_outside _ _ _ _ c.in_ok-due.ensures.files) r.2,
     )
 
 pub returns-clause-same : goal.returns-clause-same

@@ -16,7 +16,7 @@ returns-in_err-press-clause-memory g c =
 
 pub returns-clause-pressed : goal.returns-clause-pressed
 returns-clause-pressed g c =
-    pressed_in key_lines c.args.stroke.now _ _ c.args.steps.now c.press.new.steps c.press.new.self c.self.inside.editing
+    pressed_in key_lines c.args.stroke.now _ _ c.press.new.self c.self.inside.editing
     c.args.self.now c.self.view_is c.self.invariant c.in_ok-press.ensures.pressed
 
 pub returns-clause-same : goal.returns-clause-same

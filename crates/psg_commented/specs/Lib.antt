@@ -1,0 +1,4 @@
+pub mod Noting
+pub mod Printing
+pub mod Keeping
+pub mod Steps
