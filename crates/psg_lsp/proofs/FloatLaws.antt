@@ -261,8 +261,8 @@ entries_plain encoding text c filter _ _ no_items = refl
 entries_plain encoding text c filter _ _ (one_item {es} {ds} e d is rest) =
     ap₂ (λ a b. a || b)
     (ap has_float is.is
-      ∙ ap (λ a. false || (false || (false || ((false || (a || false)) || false))))
-      (range_plain encoding text c.from c.to is.range is.is_range))
+    ∙ ap (λ a. false || (false || (false || ((false || (a || false)) || false))))
+    (range_plain encoding text c.from c.to is.range is.is_range))
     (entries_plain encoding text c filter es ds rest)
 
 completed_plain : (def : Definition) (kind : Kind) (encoding : Encoding) (text : Option (List ℕ)) (position : Position)

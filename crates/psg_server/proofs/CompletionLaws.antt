@@ -47,12 +47,12 @@ module _ (encoding : Encoding) (text : List ℕ) (c : Completion) (filter : List
       (so (view value ∷ ds)
       (subst (λ l. AreItems encoding text c filter l (view value ∷ ds)) (sym (drop_item row i e lt at))
       (one_item e (view value) is are))) where
-    mapped : (vs : List Value) → map view (vs ++ value ∷ []) ++ ds ≡ map view vs ++ (view value ∷ ds)
-    mapped [] = refl
-    mapped (v ∷ vs) = ap (λ l. view v ∷ l) (mapped vs)
+        mapped : (vs : List Value) → map view (vs ++ value ∷ []) ++ ds ≡ map view vs ++ (view value ∷ ds)
+        mapped [] = refl
+        mapped (v ∷ vs) = ap (λ l. view v ∷ l) (mapped vs)
 
-    row_is : map view new ++ ds ≡ map view old ++ (view value ∷ ds)
-    row_is = ap (λ l. map view l ++ ds) n ∙ mapped old
+        row_is : map view new ++ ds ≡ map view old ++ (view value ∷ ds)
+        row_is = ap (λ l. map view l ++ ds) n ∙ mapped old
 
   pub items_end : (all row : List Entry) (i : ℕ) (values : List Value) → length row ≤ i
       → AreSoFar all (drop i row) values → AreItems encoding text c filter all (map view values)

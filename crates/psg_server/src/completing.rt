@@ -212,7 +212,9 @@ impl Server {
                 let document = place.document;
                 let position = place.position;
                 let encoding = self.encoding;
-                let told = document_completion(alloc, language, kind, encoding, document, position, steps)?;
+                let told = document_completion(
+                    alloc, language, kind, encoding, document, position, steps,
+                )?;
                 let reply = answered(alloc, id, told)?;
                 Ok(reply)
             }
