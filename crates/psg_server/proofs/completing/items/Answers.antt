@@ -4,7 +4,8 @@ use Rattle.psg_server.proofs.completing.items.Goals as goal
 pub loop-place-init : goal.loop-place-init
 loop-place-init c =
     items_first c.args.page.now.encoding c.args.page.now.text.now c.args.completion.now c.args.filter.now
-    c.args.completion.now.entries.items c.as_slice-entries.result.now _ c.as_slice-entries.ensures c.new-values.ensures.items
+    c.args.completion.now.entries.items c.as_slice-entries.result.now _ c.as_slice-entries.ensures.value
+    c.new-values.ensures.items
 
 pub loop-place-preserved : goal.loop-place-preserved
 loop-place-preserved c =
