@@ -7,7 +7,9 @@ use super::programs::{blamed, write_path, write_place};
 use psg_eval::Tables;
 use psg_grammar::Definition;
 use psg_langs::MINI;
-use psg_places::{Place, all_places, kept_part, new_name, opened_places, path_back, path_there};
+use psg_places::{
+    Blamed, Place, all_places, kept_part, new_name, opened_places, path_back, path_there,
+};
 use psg_terms::Txt;
 use psg_tree::{Path, Tree, abstract_text};
 use std::alloc::{AllocError, Global};
@@ -81,6 +83,54 @@ fn told_way(alloc: Global, opened: &[Place], path: &Path) -> Result<String, Allo
     Ok(text)
 }
 
+/// Says of each place of the tree whether it is kept: whether it is not among these.
+fn kept_answers(
+    alloc: Global,
+    definition: &Definition,
+    tables: &Tables,
+    tree: &Tree,
+    opened: &[&str],
+) -> Result<Vec<bool>, AllocError>
+    requires sound { IsSound definition.now }
+    requires tables { AreTables definition.now tables.now }
+{
+    let places = all_places(alloc, definition, tables, tree)?;
+    kept_but(alloc, places.as_slice(), opened)
+}
+
+/// Returns the tree of the kept places as a text.
+fn part_text(
+    alloc: Global,
+    definition: &Definition,
+    tables: &Tables,
+    tree: &Tree,
+    kept: &[bool],
+) -> Result<String, AllocError>
+    requires sound { IsSound definition.now }
+    requires tables { AreTables definition.now tables.now }
+{
+    let names = Txt::of(alloc, String::from_str(alloc, "q")?)?;
+    let part = kept_part(alloc, definition, tables, &names, kept, tree)?;
+    abstract_text(alloc, definition, &part)
+}
+
+/// Returns the way of the node at the path to that tree and back.
+fn way_text(
+    alloc: Global,
+    definition: &Definition,
+    tables: &Tables,
+    tree: &Tree,
+    kept: &[bool],
+    path: &[u32],
+) -> Result<String, AllocError>
+    requires sound { IsSound definition.now }
+    requires tables { AreTables definition.now tables.now }
+{
+    let gone = opened_places(alloc, definition, tables, kept, tree)?;
+    let path = Path::of(alloc, path)?;
+    told_way(alloc, gone.as_slice(), &path)
+}
+
 /// The tree without these places, and the way of the node at the path.
 fn told_part(
     alloc: Global,
@@ -92,14 +142,10 @@ fn told_part(
     requires sound { IsSound definition.now }
 {
     let tables = Tables::of(alloc, definition)?;
-    let places = all_places(alloc, definition, &tables, tree)?;
-    let kept = kept_but(alloc, places.as_slice(), opened)?;
-    let names = Txt::of(alloc, String::from_str(alloc, "q")?)?;
-    let part = kept_part(alloc, definition, &tables, &names, kept.as_slice(), tree)?;
-    let gone = opened_places(alloc, definition, &tables, kept.as_slice(), tree)?;
-    let way = told_way(alloc, gone.as_slice(), &Path::of(alloc, path)?)?;
-    let mut text = abstract_text(alloc, definition, &part)?;
+    let kept = kept_answers(alloc, definition, &tables, tree, opened)?;
+    let mut text = part_text(alloc, definition, &tables, tree, kept.as_slice())?;
     text.push_str(" ")?;
+    let way = way_text(alloc, definition, &tables, tree, kept.as_slice(), path)?;
     text.push_str(way.as_str())?;
     Ok(text)
 }
@@ -192,29 +238,45 @@ fn front_answers(alloc: Global, kept: &[bool]) -> Result<Vec<bool>, AllocError> 
     Ok(front)
 }
 
-/// The front of the first blamed place, and its new name if it is a name.
+/// Returns the tree as a text, and after it the name.
+fn named_text(
+    alloc: Global,
+    definition: &Definition,
+    part: &Tree,
+    name: &Txt,
+) -> Result<String, AllocError> {
+    let mut text = abstract_text(alloc, definition, part)?;
+    text.push_str(" ")?;
+    text.push_str(name.as_str())?;
+    Ok(text)
+}
+
+/// Returns the front of the first place that is not kept, and its new name if it is a name.
+fn front_text(
+    alloc: Global,
+    definition: &Definition,
+    tables: &Tables,
+    tree: &Tree,
+    found: &Blamed,
+) -> Result<String, AllocError>
+    requires sound { IsSound definition.now }
+    requires tables { AreTables definition.now tables.now }
+{
+    let front = front_answers(alloc, found.kept.as_slice())?;
+    let name = new_name(alloc, &found.names, front.len())?;
+    let answers = front.as_slice();
+    let part = kept_part(alloc, definition, tables, &found.names, answers, tree)?;
+    named_text(alloc, definition, &part, &name)
+}
+
+/// Returns that of the blamed places of the tree.
 fn told_front(alloc: Global, definition: &Definition, tree: &Tree) -> Result<String, AllocError>
     requires sound { IsSound definition.now }
     requires formed { IsFormed definition.now tree.now }
 {
     let tables = Tables::of(alloc, definition)?;
     match blamed(alloc, definition, &tables, tree) {
-        Ok(Some(found)) => {
-            let front = front_answers(alloc, found.kept.as_slice())?;
-            let part = kept_part(
-                alloc,
-                definition,
-                &tables,
-                &found.names,
-                front.as_slice(),
-                tree,
-            )?;
-            let name = new_name(alloc, &found.names, front.len())?;
-            let mut text = abstract_text(alloc, definition, &part)?;
-            text.push_str(" ")?;
-            text.push_str(name.as_str())?;
-            Ok(text)
-        }
+        Ok(Some(found)) => front_text(alloc, definition, &tables, tree, &found),
         Ok(None) => String::from_str(alloc, "none"),
         Err(_) => Err(AllocError),
     }
