@@ -71,8 +71,8 @@ line_after line keys.Delete = Some (without_right line)
 line_after line _ = None
 
 -- A line with the lines that were typed before it: the earlier ones, the first one first, and which of them is shown.
--- Where the new line is shown, that is the number of the earlier ones. While an earlier one is shown, `draft` has the new
--- one.
+-- Where the new line is shown, that is the number of the earlier ones. While an earlier one is shown, `draft` has the
+-- new one.
 pub record TypedLines : Type 0 where
   pub line : Typed
   pub earlier : List (List ℕ)

@@ -1,6 +1,7 @@
 -- Which key the bytes of a key are.
 use Rattle.std.specs.Prelude.{ℕ, ◌+◌, ◌-◌, ◌*◌, ◌==◌, ◌&&◌, ◌||◌, Bool, true, false, List, [], ◌∷◌, Option, Some, None}
-use Rattle.std.specs.Prelude.{length, take, drop, position, slice_index, slice_get, nat_lt, nat_le, chars, if◌then◌else◌}
+use Rattle.std.specs.Prelude.{length, take, drop, position, slice_index, slice_get}
+use Rattle.std.specs.Prelude.{nat_lt, nat_le, chars, if◌then◌else◌}
 use Rattle.std.specs.Str.{is_utf8}
 use Rattle.psg_keys.specs.Sizes.{is_between}
 use Rattle.psg_keys.specs.declared.key.Key.{Key}

@@ -1,4 +1,4 @@
--- Keys from bytes that come by pieces.
+-- Keys from bytes that are read in pieces.
 use Rattle.std.specs.Prelude.{ℕ, ◌≡◌, ◌==◌, ◌&&◌, ◌||◌, not, nat_le, Bool, true, false, List, [], ◌∷◌, ◌++◌, Some, None}
 use Rattle.std.specs.Prelude.{length, drop, flat_map, slice_index, if◌then◌else◌}
 use Rattle.psg_keys.specs.Sizes.{first_size, begins_sequence}
@@ -18,8 +18,8 @@ pub record Waiting : Type 0 where
   pub late : Bool
   pub bytes : List ℕ
 
--- The text is the bytes of these keys, one after the other, and of a rest whose first key is not known yet. `after` says
--- whether a paste goes on then.
+-- The text is the bytes of these keys, one after the other, and of a rest whose first key is not known yet. `after`
+-- says whether a paste goes on then.
 abbrev pub Reads : Bool → List ℕ → List Spelled → Bool → List ℕ → Type 0
 Reads pasting text [] after rest = (first_size pasting text ≡ None) × (after ≡ pasting) × (rest ≡ text)
 Reads pasting text (s ∷ more) after rest =
@@ -30,7 +30,7 @@ Reads pasting text (s ∷ more) after rest =
     × Reads (goes_on pasting s.key) behind more after rest
 
 -- An escape that ended a piece was given as a key. It begins a sequence all the same where the next piece is `[` or `O`
--- and more: a slow line cut the sequence there. A `[` that is typed comes alone.
+-- and more: a slow line cut the sequence there. A `[` that is typed is sent alone.
 abbrev pub is_continued : List ℕ → List ℕ → Bool
 is_continued kept piece =
     nat_le 2 (length kept) || (nat_le 2 (length piece) && begins_sequence (slice_index piece 0))
@@ -38,7 +38,7 @@ is_continued kept piece =
 abbrev pub is_late : Waiting → List ℕ → Bool
 is_late waiting piece = waiting.late && is_continued waiting.bytes piece
 
--- the bytes that are read when a piece comes
+-- the bytes that are read with a piece
 abbrev pub text_of : Waiting → List ℕ → List ℕ
 text_of waiting piece =
     if waiting.late && not (is_continued waiting.bytes piece) then piece else waiting.bytes ++ piece
@@ -70,7 +70,8 @@ pub record HasRead (old : Waiting) (piece : List ℕ) (given : List Spelled) (ne
       ≡ (is_escape new.pasting new.bytes || (is_late old piece && no_keys read))
 
 -- what is found in a text, of which the first byte may be an escape that was given before
-pub record Finds (pasting late : Bool) (text : List ℕ) (given : List Spelled) (after still : Bool) (rest : List ℕ) : Type 0 where
+pub record Finds (pasting late : Bool) (text : List ℕ) (given : List Spelled) (after still : Bool)
+    (rest : List ℕ) : Type 0 where
   pub read : List Spelled
   pub keys : Reads pasting text read after rest
   pub told : given ≡ without_escape late read
@@ -84,11 +85,11 @@ unread waiting = if waiting.late then drop 1 waiting.bytes else waiting.bytes
 abbrev pub spelled : List Spelled → List ℕ
 spelled given = flat_map (λ s. s.bytes) given
 
--- nothing came yet
+-- nothing was read yet
 abbrev pub at_first : Waiting
 at_first = record { pasting = false; late = false; bytes = [] }
 
--- what is read of pieces that come one after the other
+-- what is read of pieces, one after the other
 abbrev pub HasReadAll : Waiting → List (List ℕ) → List Spelled → Waiting → Type 0
 HasReadAll old [] given new = (given ≡ []) × (new ≡ old)
 HasReadAll old (piece ∷ pieces) given new =

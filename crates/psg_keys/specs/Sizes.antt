@@ -1,4 +1,4 @@
--- How many bytes the first key of some bytes has. `None` says that more bytes must come before it is known.
+-- How many bytes the first key of some bytes has. `None` says that more bytes must be read before it is known.
 use Rattle.std.specs.Prelude.{ℕ, ◌+◌, ◌==◌, ◌&&◌, ◌||◌, not, Bool, true, false, List, [], ◌∷◌, Option, Some, None}
 use Rattle.std.specs.Prelude.{length, take, position, slice_index, nat_lt, nat_le, if◌then◌else◌}
 use Rattle.std.specs.Option.{option_map}
@@ -15,8 +15,8 @@ ends_sequence b = not (is_between 0x20 0x3F b)
 abbrev pub ends_character : ℕ → Bool
 ends_character b = not (is_between 0x80 0xBF b)
 
--- The length of the run of bytes up to one that ends it, which has at most `most` bytes. It is not known where the bytes
--- end first.
+-- The length of the run of bytes up to one that ends it, which has at most `most` bytes. It is not known where the
+-- bytes end first.
 abbrev pub run_at : ℕ → List ℕ → Option ℕ → Option ℕ
 run_at most bytes (Some place) = Some place
 run_at most bytes None = if nat_lt (length bytes) most then None else Some most

@@ -1,4 +1,4 @@
-//! Keys, and the bytes that they came as.
+//! Keys, and the bytes that they were sent as.
 ghost use Rattle.std.specs.Prelude.{◌≡◌};
 ghost use Rattle.psg_keys.specs.Names.{goes_on};
 
@@ -14,21 +14,35 @@ pub enum Key {
     Pasted(char),
     /// Ctrl with this letter from `a` to `z`.
     Control(char),
+    /// The key Enter, or Return.
     Enter,
+    /// The tabulator.
     Tab,
     /// Shift with Tab.
     BackTab,
+    /// The key that deletes the character before the cursor.
     Backspace,
+    /// The key Escape, pressed alone.
     Escape,
+    /// The arrow up.
     Up,
+    /// The arrow down.
     Down,
+    /// The arrow to the left.
     Left,
+    /// The arrow to the right.
     Right,
+    /// To the beginning of a line.
     Home,
+    /// To the end of a line.
     End,
+    /// The key Insert.
     Insert,
+    /// The key that deletes the character after the cursor.
     Delete,
+    /// One page up.
     PageUp,
+    /// One page down.
     PageDown,
     /// A pasted text begins.
     PasteBegins,
@@ -53,7 +67,7 @@ impl Key {
     }
 }
 
-/// A key and the bytes that it came as.
+/// A key and the bytes that it was sent as.
 #[derive(Drop)]
 pub struct Stroke {
     key: Key,

@@ -1,4 +1,4 @@
-//! Keys of a terminal from bytes that come by pieces, and a line of text that is typed.
+//! Keys of a terminal from bytes that are read in pieces, and a line of text that is typed.
 //!
 //! ```text
 //! let mut reader = KeyReader::new(alloc);

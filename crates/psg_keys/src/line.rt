@@ -63,8 +63,8 @@ impl Line {
         self.place
     }
 
-    /// Does what the key does to a line, and returns `true`; `false` where the key is none of a line's, which leaves the
-    /// line as it is. Fails only when out of memory, and the line is then as before. Moves the characters after the
+    /// Does what the key does to a line, and returns `true`; `false` where the key is none of a line's, which leaves
+    /// the line as it is. Fails only when out of memory, and the line is then as before. Moves the characters after the
     /// cursor at most once.
     pub fn press(&mut self, key: Key) -> Result<bool, AllocError>
         ensures pressed { IfOk result (λ _. self.new ≡ unwrap_or (line_after self.old key) self.old) }

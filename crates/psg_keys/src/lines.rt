@@ -9,7 +9,7 @@ use std::alloc::{AllocError, Global};
 use std::marker::Model;
 
 /// A line of text with the lines that were typed before it. Up and Down show the earlier ones, which can be changed
-/// like the new one; the earlier one itself stays as it was, and Down comes back to the new one.
+/// like the new one; the earlier one itself stays as it was, and Down goes back to the new one.
 #[derive(Drop)]
 pub struct Lines {
     line: Line,
@@ -54,9 +54,9 @@ impl Lines {
         &self.line
     }
 
-    /// Does what the key does, and returns `true`; `false` where the key is none of a line's, which leaves all as it is.
-    /// Up shows the earlier line before the one that is shown, and Down the one after it, each with the cursor at its
-    /// end. Fails only when out of memory, and all is then as before.
+    /// Does what the key does, and returns `true`; `false` where the key is none of a line's, which leaves all as it
+    /// is. Up shows the earlier line before the one that is shown, and Down the one after it, each with the cursor at
+    /// its end. Fails only when out of memory, and all is then as before.
     pub fn press(&mut self, alloc: Global, key: Key) -> Result<bool, AllocError>
         ensures pressed { IfOk result (λ _. self.new ≡ unwrap_or (lines_after self.old key) self.old) }
         ensures taken { IfOk result (λ taken. taken ≡ is_some (lines_after self.old key)) }
@@ -75,8 +75,8 @@ impl Lines {
         }
     }
 
-    /// Keeps the line as the latest earlier one, unless it is empty, and begins a new one. Fails only when out of memory,
-    /// and all is then as before. Copies the line.
+    /// Keeps the line as the latest earlier one, unless it is empty, and begins a new one. Fails only when out of
+    /// memory, and all is then as before. Copies the line.
     pub fn keep(&mut self, alloc: Global) -> Result<(), AllocError>
         ensures kept { OnOk result (self.new ≡ kept_after self.old) }
         ensures memory { OnErr result (self.new ≡ self.old) }

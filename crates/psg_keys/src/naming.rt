@@ -1,7 +1,8 @@
 //! Which key the bytes of a key are.
 ghost use Rattle.std.specs.Prelude.{◌≡◌, ◌<◌, ◌==◌, ◌&&◌, IfSome, chars, length, nat_le, position, slice_get};
 ghost use Rattle.psg_keys.specs.Names.{character_of, control_key, typed_key, character_key, letter_key, number_key};
-ghost use Rattle.psg_keys.specs.Names.{numbered_key, number_of, with_digit, size_by, size_key, sequence_key, escape_key};
+ghost use Rattle.psg_keys.specs.Names.{numbered_key, number_of, with_digit, size_by};
+ghost use Rattle.psg_keys.specs.Names.{size_key, sequence_key, escape_key};
 ghost use Rattle.psg_keys.specs.Names.{pasted_escape_key, key_of};
 
 use crate::key::Key;

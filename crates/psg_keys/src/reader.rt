@@ -1,4 +1,4 @@
-//! Keys from bytes that come by pieces.
+//! Keys from bytes that are read in pieces.
 ghost use Rattle.std.specs.Prelude.{◌≡◌, ◌++◌, ◌&&◌, ◌||◌, IfOk, OnErr, OnOk, drop, if◌then◌else◌};
 ghost use Rattle.psg_keys.specs.Reading.{Finds, HasRead, at_first, is_continued, is_escape, last_keys};
 ghost use Rattle.psg_keys.specs.Reading.{spelled, unread};
@@ -9,8 +9,8 @@ use crate::sizes::{ESCAPE, begins_sequence, first_size};
 use std::alloc::{AllocError, Global};
 use std::marker::Model;
 
-/// A reader of keys, which keeps the bytes of a key that is not known yet. What it keeps at the end of the input is part of
-/// no key.
+/// A reader of keys, which keeps the bytes of a key that is not known yet. What it keeps at the end of the input is
+/// part of no key.
 #[derive(Drop)]
 pub struct KeyReader {
     pasting: bool,
@@ -30,7 +30,7 @@ impl Model for KeyReader {
 }
 
 impl KeyReader {
-    /// Makes a reader that nothing came to yet. Takes no memory; `alloc` keeps what waits later.
+    /// Makes a reader that has read nothing yet. Takes no memory; `alloc` keeps what waits later.
     pub fn new(alloc: Global) -> KeyReader
         ensures { result ≡ at_first }
     {
@@ -44,8 +44,8 @@ impl KeyReader {
     /// Reads the next piece of the input, and returns the keys that are known now, the first one first.
     ///
     /// An escape that ends the piece is the key Escape at once. Where the next piece is the rest of a sequence, that is
-    /// a key of its own, without the escape. Fails only when out of memory, and the reader is then as before. Reads each
-    /// byte of the piece and those that wait a few times.
+    /// a key of its own, without the escape. Fails only when out of memory, and the reader is then as before. Reads
+    /// each byte of the piece and those that wait a few times.
     pub fn read(&mut self, alloc: Global, piece: &[u8]) -> Result<Vec<Stroke>, AllocError>
         ensures bytes { IfOk result (λ keys. spelled keys.items ++ unread self.new ≡ unread self.old ++ piece.now) }
         ensures reads { IfOk result (λ keys. HasRead self.old piece.now keys.items self.new) }
@@ -59,8 +59,8 @@ impl KeyReader {
     }
 }
 
-/// What is found in a text: its keys, whether a paste goes on after them, whether the text begins with an escape that was
-/// given before and is in none of them, and the bytes after them.
+/// What is found in a text: its keys, whether a paste goes on after them, whether the text begins with an escape that
+/// was given before and is in none of them, and the bytes after them.
 #[derive(Drop)]
 struct Found {
     strokes: Vec<Stroke>,
@@ -99,7 +99,7 @@ fn next_keys(
     })
 }
 
-/// Returns the bytes that are read when a piece comes: those that are kept, unless they are to be left out, and the
+/// Returns the bytes that are read with a piece: those that are kept, unless they are to be left out, and the
 /// piece.
 fn text_of(alloc: Global, fresh: bool, kept: &[u8], piece: &[u8]) -> Result<Vec<u8>, AllocError>
     ensures { IfOk result (λ text. text.items ≡ (if fresh then piece.now else kept.now ++ piece.now)) }

@@ -1,6 +1,7 @@
 //! How many bytes the first key of some bytes has.
 ghost use Rattle.std.specs.Prelude.{◌≡◌, ◌<◌, ◌≤◌, IfSome, length, take, position, slice_get};
-ghost use Rattle.psg_keys.specs.Sizes.{run, run_at, is_between, ends_sequence, ends_character, body_size, escape_size, follow_count};
+ghost use Rattle.psg_keys.specs.Sizes.{run, run_at, is_between, ends_sequence, ends_character};
+ghost use Rattle.psg_keys.specs.Sizes.{body_size, escape_size, follow_count};
 ghost use Rattle.psg_keys.specs.Sizes.{character_size, begins_with, begins_sequence, pasted_escape_size, first_size};
 
 /// The most bytes that a sequence has after its first two.
@@ -11,8 +12,8 @@ const END_OF_PASTE: [u8; 5] = [b'[', b'2', b'0', b'1', b'~'];
 
 pub(crate) const ESCAPE: u8 = 27;
 
-/// Returns the size of the first key of the bytes, in a paste or not. `None` says that more bytes must come before it is
-/// known. It reads at most 32 bytes.
+/// Returns the size of the first key of the bytes, in a paste or not. `None` says that more bytes must be read before it
+/// is known. It reads at most 32 bytes.
 pub(crate) fn first_size(pasting: bool, bytes: &[u8]) -> Option<usize>
     ensures size { result ≡ first_size pasting bytes.now }
     ensures some { IfSome result (λ size. 0 < size) }
@@ -95,7 +96,7 @@ fn run_at(most: usize, bytes: &[u8], place: Option<usize>) -> Option<usize>
     }
 }
 
-/// Returns the first bytes, at most so many.
+/// Returns the first bytes, at most that many.
 fn front_of(bytes: &[u8], most: usize) -> &[u8]
     ensures { result.now ≡ take most bytes.now }
 {
@@ -140,7 +141,7 @@ fn follow_count(first: u8) -> usize
     }
 }
 
-/// Returns how many of the bytes, at most so many, may follow the first one of a character.
+/// Returns how many of the bytes, at most that many, may follow the first one of a character.
 fn followers(bytes: &[u8], most: usize) -> Option<usize>
     ensures size { result ≡ run ends_character most bytes.now }
     ensures within { IfSome result (λ size. size ≤ most) }
@@ -174,7 +175,7 @@ fn pasted_escape_size(rest: &[u8]) -> Option<usize>
     }
 }
 
-/// Says whether the bytes begin with the mark. `None` says that more bytes must come before it is known.
+/// Says whether the bytes begin with the mark. `None` says that more bytes must be read before it is known.
 fn begins_with(mark: &[u8], bytes: &[u8]) -> Option<bool>
     ensures { result ≡ begins_with mark.now bytes.now }
 {
