@@ -9,7 +9,8 @@ use Rattle.psg_grammar.specs.Legal.{IsCompletable}
 use Rattle.psg_grammar.specs.Open.{IsOpen}
 use Rattle.psg_grammar.specs.Printable.{IsPrintable}
 use Rattle.psg_completions.specs.Conditions.{HasTrueRows}
-use Rattle.psg_cache.specs.Notes.{IsNoteFault}
+use Rattle.psg_cache.specs.Annotated.{Annotated, tree_in}
+use Rattle.psg_cache.specs.Notes.{IsNoteFault, IsNoteOf}
 use Rattle.psg_cache.specs.declared.note.NoteFault.{NoteFault}
 use Rattle.psg_cache.specs.declared.note.NoteFault.TheVariants as faults
 use Rattle.psg_grammar.specs.declared.types.Kind.{Kind}
@@ -85,9 +86,18 @@ abbrev pub trials_work : ℕ → ℕ → ℕ
 trials_work zero work = 0
 trials_work (suc n) work = work + trials_work n work
 
--- the tree of the kept places, and whether it is good
+-- both trees are of one kind
+abbrev pub IsBeside : Definition → Fragment → Fragment → Type 0
+IsBeside def old new = (kind : Kind) × WellFormed def old kind × WellFormed def new kind
+
+-- the note is right, and its tree may take the place of the whole tree
+pub record IsNear (def : Definition) (f : Fragment) (n : Annotated) : Type 0 where
+  pub noted : IsNoteOf def (tree_in n) n
+  pub kinds : (kind : Kind) → WellFormed def f kind → WellFormed def (tree_in n) kind
+
+-- the note of the tree of the kept places, and whether it is good
 pub record IsTrial (def : Definition) (front : Name) (kept : List Bool) (f : Fragment) (t : Trial) : Type 0 where
-  pub tree : t.tree ≡ opened def (kept_in kept) (new_name front) f
+  pub note : IsNoteOf def (opened def (kept_in kept) (new_name front) f) t.note
   pub count : t.places ≡ place_count def f
   pub small : place_count def f < 2 ^ 64
   pub opens : (t.good ≡ true) ↔ IsOpen def (opened def (kept_in kept) (new_name front) f)

@@ -32,7 +32,7 @@ mod trial;
 mod ways;
 mod words;
 
-pub use blaming::{Blamed, MOST_BLAMED, blame};
+pub use blaming::{Blamed, MOST_BLAMED, blame, blame_noted};
 pub use fault::BlameFault;
 pub use fronts::new_name;
 pub use listing::{all_places, blamed_places, opened_places};
