@@ -1,5 +1,5 @@
 -- A change takes no more evaluations than the new tree made from nothing.
-use Rattle.std.proofs.Common.{◌≡◌, ℕ, zero, suc, ◌+◌, ◌≤◌, Bool, true, false, cond, inl, inr, List, [], ◌∷◌, length, refl, sym, ◌∙◌, ap, arith}
+use Rattle.std.proofs.Common.{◌≡◌, inl, inr, ℕ, zero, suc, ◌+◌, ◌≤◌, Bool, true, false, cond, length, ap, arith}
 use Rattle.std.proofs.lemmas.Bool.{cases_Bool}
 use Rattle.psg_grammar.specs.declared.types.Definition.{Definition}
 use Rattle.psg_grammar.specs.Fragments.{Fragment, hole, ending, cell, operator, with_child, with_name, with_number, with_text, anything, observed, children_of, top_operator}
@@ -8,7 +8,7 @@ use Rattle.psg_grammar.specs.Same.{same_tree}
 use Rattle.psg_grammar.specs.Work.{work_of, works_of}
 use Rattle.psg_cache.specs.Diff.{agree, diff_below, diff_cells, diff_of, last_differing, list_number, place_before, same_some}
 use Rattle.psg_cache.specs.Notes.{IsFormed}
-use Rattle.psg_cache.proofs.Counting.{together, work_split}
+use Rattle.psg_cache.proofs.Counting.{work_split}
 use Rattle.psg_cache.proofs.PairLaws.{list_of_kind, same_both, spine_of, works_list}
 use Rattle.psg_cache.proofs.RealTrees.{IsReal, IsSpine, real}
 use Rattle.psg_cache.proofs.RenoteLaws.{list_evaluations}
