@@ -1,12 +1,16 @@
 //! The next blamed place: the most places that can be kept together after those before them, by halving.
 ghost use Rattle.std.specs.Prelude.{ℕ, ◌≡◌, ◌+◌, ◌^◌, ◌<◌, ◌≤◌, ◌++◌, ◌↔◌, true, false, cond, length, replicate, IfErr};
-ghost use Rattle.std.specs.Prelude.{IfOk, IsTrue, OnOk};
+ghost use Rattle.std.specs.Prelude.{IfOk, IsTrue, List, OnOk};
+ghost use Rattle.std.specs.List.{AllByRecursion};
+ghost use Rattle.psg_cache.specs.Annotated.{tree_in};
+ghost use Rattle.psg_cache.specs.Diff.{diff_of};
 ghost use Rattle.psg_cache.specs.Notes.{AreTables, IsFormed};
+ghost use Rattle.psg_grammar.specs.Fragments.{Fragment};
 ghost use Rattle.psg_grammar.specs.Open.{IsOpen};
 ghost use Rattle.psg_grammar.specs.Sound.{IsSound};
 ghost use Rattle.psg_grammar.specs.Work.{work_of};
-ghost use Rattle.psg_places.specs.Answers.{HasMore, IsBlameFault, IsMost, IsNear, IsNextFound, next_tree, trials_work};
-ghost use Rattle.psg_places.specs.Answers.{with_found};
+ghost use Rattle.psg_places.specs.Answers.{HasMore, IsBlameFault, IsMost, IsNear, IsNextFound, IsNextTree, IsRound};
+ghost use Rattle.psg_places.specs.Answers.{Round, beside_work, next_tree, trials_work, with_found};
 ghost use Rattle.psg_places.specs.NewNames.{IsFront, new_name};
 ghost use Rattle.psg_places.specs.Places.{place_count};
 
@@ -84,8 +88,11 @@ fn next_trial<L: Ledger>(
     ensures open { IfOk result (λ t. (t.good ≡ true)
         ↔ IsOpen definition.now (next_tree definition.now front.now kept.now more tree.now)) }
     ensures near { IfOk result (λ t. IsNear definition.now tree.now t.note) }
+    ensures tree { IfOk result (λ t. tree_in t.note ≡ next_tree definition.now front.now kept.now more tree.now) }
     ensures fault { IfErr result (IsBlameFault definition.now tree.now) }
     // whatever it answers
+    ensures climb { steps.new ≤ steps.old
+        + diff_of (tree_in old.now) (next_tree definition.now front.now kept.now more tree.now) }
     ensures ticks { steps.new ≤ steps.old + work_of tree.now }
 {
     let next = with_next(alloc, kept, more)?;
@@ -116,6 +123,8 @@ fn keeps_next<L: Ledger>(
         ↔ IsOpen definition.now (next_tree definition.now front.now kept.now more tree.now)) }
     ensures fault { IfErr result (IsBlameFault definition.now tree.now) }
     // whatever it answers
+    ensures climb { steps.new ≤ steps.old
+        + diff_of (tree_in old.now) (next_tree definition.now front.now kept.now more tree.now) }
     ensures ticks { steps.new ≤ steps.old + work_of tree.now }
 {
     let trial = next_trial(
@@ -173,6 +182,9 @@ fn most_kept<L: Ledger>(
     requires bad { IsOpen definition.now (next_tree definition.now front.now kept.now left tree.now) → ⊥ }
     ensures most { IfOk result (IsMost definition.now front.now tree.now kept.now left) }
     ensures fault { IfErr result (IsBlameFault definition.now tree.now) }
+    ensures climbs { IfOk result (λ _. (h : ℕ) → left ≤ 2 ^ h → (trees : List Fragment) × (length trees ≤ h)
+        × AllByRecursion (IsNextTree definition.now front.now tree.now kept.now) trees
+        × (steps.new ≤ steps.old + beside_work (tree_in old.now) trees)) }
     // whatever it answers
     ensures ticks { (h : ℕ) → left ≤ 2 ^ h → steps.new ≤ steps.old + trials_work h (work_of tree.now) }
 {
@@ -215,6 +227,9 @@ pub(crate) fn next_found<L: Ledger>(
     ensures near { IfOk result (λ found. IsNear definition.now tree.now found.all) }
     ensures next { IfOk result (IsNextFound definition.now front.now tree.now kept.now) }
     ensures fault { IfErr result (IsBlameFault definition.now tree.now) }
+    ensures round { IfOk result (λ found. (h : ℕ) → places ≤ 2 ^ h → (r : Round)
+        × IsRound definition.now front.now tree.now h r × (tree_in found.all ≡ r.all)
+        × (steps.new ≤ steps.old + (diff_of (tree_in old.now) r.all + beside_work r.all r.fewer))) }
     ensures all { IfOk result (λ found. found.blamed ≡ false → steps.new ≤ steps.old + work_of tree.now) }
     // whatever it answers
     ensures ticks { (h : ℕ) → places ≤ 2 ^ h → steps.new ≤ steps.old + trials_work (1 + h) (work_of tree.now) }
