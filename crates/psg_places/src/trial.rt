@@ -181,6 +181,8 @@ pub(crate) fn nothing_noted<L: Ledger>(
     ensures near { IfOk result (IsNear definition.now tree.now) }
     ensures fault { IfErr result (IsBlameFault definition.now tree.now) }
     // whatever it answers
+    ensures anew { steps.new ≤ steps.old
+        + work_of (opened definition.now (kept_in []) (new_name front.now) tree.now) }
     ensures ticks { steps.new ≤ steps.old + work_of tree.now }
 {
     let none = Vec::new(alloc);

@@ -1,15 +1,17 @@
-use Rattle.std.proofs.Common.{◌≡◌, inl, inr, ◌∙◌, ◌+◌, ◌*◌, ◌<◌, ◌^◌, length, ap, sym, subst, arith}
+use Rattle.std.proofs.Common.{◌≡◌, inl, inr, ◌∙◌, ◌+◌, ◌*◌, ◌<◌, ◌^◌, Bool, List, length, ap, sym, subst, arith}
 use Rattle.psg_grammar.specs.Open.{IsOpen}
 use Rattle.psg_grammar.specs.Work.{work_of}
-use Rattle.psg_places.specs.Answers.{HasMore, IsBlameFault, IsNear, IsNextFound, next_tree, trials_work}
+use Rattle.psg_places.specs.Answers.{AreRounds, HasMore, IsBlameFault, IsNear, IsNextFound, next_tree, trials_work}
 use Rattle.psg_places.specs.declared.fault.BlameFault.TheVariants.{Memory}
 use Rattle.psg_places.specs.Blame.{most_blamed}
 use Rattle.psg_places.specs.NewNames.{new_name}
 use Rattle.psg_places.specs.Places.{place_count}
 use Rattle.psg_places.proofs.AnswerLaws.{all_answers, passed, stopped}
+use Rattle.psg_cache.specs.Annotated.{tree_in}
+use Rattle.psg_places.proofs.ClimbLaws.{IsRounding, rounding_end, rounding_first, rounding_next}
 use Rattle.psg_places.proofs.FallingLaws.{open_falls}
 use Rattle.psg_places.proofs.NewNameLaws.{all_new}
-use Rattle.psg_places.proofs.SearchLaws.{IsKnown, due_more, known_first, known_good, known_round, spent_end, spent_fault, spent_most}
+use Rattle.psg_places.proofs.SearchLaws.{IsKnown, due_more, found_ends, known_first, known_good, known_round, spent_end, spent_fault, spent_most}
 use Rattle.psg_places.proofs.blaming.answers.Goals as goal
 
 pub places-init : goal.places-init
@@ -17,6 +19,13 @@ places-init g c = record {
   known = known_first c.args.definition.now c.args.front.now c.args.tree.now c.args.places c.args.steps.now (work_of c.args.tree.now) c.new-kept.result.items
       c.new-kept.ensures.items c.requires.nothing;
   near = subst (λ n. IsNear c.args.definition.now c.args.tree.now n) (sym c.in_ok-base.ensures) c.requires.near;
+  rounds = λ h le.
+      subst
+      (λ (ks : List Bool). IsRounding c.args.definition.now c.args.front.now c.args.tree.now (tree_in c.args.old.now)
+      (tree_in c.in_ok-base.base) h (length ks) c.args.places 0 c.args.steps.now c.args.steps.now)
+      (sym c.new-kept.ensures.items)
+      (rounding_first c.args.definition.now c.args.front.now c.args.tree.now (tree_in c.args.old.now)
+      (tree_in c.in_ok-base.base) h c.args.places c.args.steps.now (ap tree_in c.in_ok-base.ensures));
 }
 
 pub returns-in_err-base-clause-fault : goal.returns-in_err-base-clause-fault
@@ -91,7 +100,16 @@ places-preserved g c =
     (known_round def front f c.args.places c.args.steps.now c.places.steps c.next_found.new.steps (work_of f) kept c.add_found.new.kept.items c.places.blamed found
     (λ rows. open_falls def c.requires.sound rows f c.requires.formed.0 c.requires.formed.1 (new_name front) (all_new def f front c.requires.front small))
     c.places.invariant.known c.requires.count lt due.1 next c.in_ok-add_found.ensures c.in_ok-found.ensures.all c.next_found.ensures.ticks) in
-    record { known = known; near = c.in_ok-found.ensures.near }
+    record {
+      known = known;
+      near = c.in_ok-found.ensures.near;
+      rounds = λ h le.
+          rounding_next def front f (tree_in c.args.old.now) (tree_in c.places.base) (tree_in found.all) h (length kept)
+          c.args.places c.places.blamed c.args.steps.now c.places.steps c.next_found.new.steps
+          (length c.add_found.new.kept.items) _ found.blamed (c.places.invariant.rounds h le) (omega (arith, due.0, long))
+          (λ e. found_ends def front f kept c.add_found.new.kept.items found next c.in_ok-add_found.ensures e ∙ sym c.requires.count) count
+          (c.in_ok-found.ensures.round h le);
+    }
 
 pub returns-in_err-found-clause-ticks : goal.returns-in_err-found-clause-ticks
 returns-in_err-found-clause-ticks g c h le =
@@ -106,3 +124,12 @@ returns-in_err-add_found-clause-ticks g c h le =
     let long : length c.as_slice.result.now ≡ length c.places.kept.items = ap length c.as_slice.ensures.value in
     spent_fault h (length c.places.kept.items) c.args.places c.places.blamed c.args.steps.now c.places.steps (work_of c.args.tree.now)
     c.next_found.new.steps (c.places.invariant.known.spent h le) (omega (arith, due.0, long)) due.1 (c.next_found.ensures.ticks h le)
+
+pub returns-clause-climbs : goal.returns-clause-climbs
+returns-clause-climbs g c h le =
+    let def = c.args.definition.now in
+    let old = tree_in c.args.old.now in
+    subst (λ n. AreRounds def c.args.front.now c.args.tree.now old h (1 + n) c.args.steps.now c.places.steps)
+    c.places.invariant.known.count
+    (rounding_end def c.args.front.now c.args.tree.now old (tree_in c.places.base) h (length c.places.kept.items) c.args.places
+    c.places.blamed c.args.steps.now c.places.steps (c.places.invariant.rounds h le))

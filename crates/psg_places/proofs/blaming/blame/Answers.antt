@@ -4,7 +4,7 @@ use Rattle.psg_places.specs.declared.fault.BlameFault.TheVariants.{Memory}
 use Rattle.psg_places.specs.Answers.{IsBlameFault}
 use Rattle.psg_places.specs.Blame.{most_blamed}
 use Rattle.psg_places.proofs.AnswerLaws.{passed}
-use Rattle.psg_places.proofs.ClimbLaws.{and_same, ok_same_trials}
+use Rattle.psg_places.proofs.ClimbLaws.{and_same, ok_same_trials, ok_search_anew}
 use Rattle.psg_places.proofs.SearchLaws.{first_trial}
 use Rattle.psg_places.proofs.blaming.blame.Goals as goal
 
@@ -30,3 +30,8 @@ pub returns-clause-trials : goal.returns-clause-trials
 returns-clause-trials g c =
     ok_same_trials c.searched.result _ _ _ _ _ _ _ c.in_ok-nothing.ensures.note.tree c.nothing_noted.ensures.ticks
     c.searched.ensures.trials
+
+pub returns-clause-climbs : goal.returns-clause-climbs
+returns-clause-climbs g c =
+    ok_search_anew c.args.definition.now c.in_ok-front.front c.args.tree.now c.searched.result _ _ _ _ _
+    c.in_ok-nothing.ensures.note.tree c.nothing_noted.ensures.anew c.searched.ensures.climbs

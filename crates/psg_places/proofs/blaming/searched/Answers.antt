@@ -16,7 +16,7 @@ use Rattle.psg_places.proofs.ForAllNames.{answers_for, completable_for_all, form
 use Rattle.psg_places.proofs.FormedLaws.{formed}
 use Rattle.psg_places.proofs.NewNameLaws.{all_new, is_name, is_short}
 use Rattle.psg_places.proofs.PrintLaws.{prints_by_places}
-use Rattle.psg_places.proofs.ClimbLaws.{after_start, only_start, same_trials, start_climb}
+use Rattle.psg_places.proofs.ClimbLaws.{after_start, no_rounds, only_start, same_rounds, same_trials, start_climb}
 use Rattle.psg_places.proofs.SearchLaws.{same_answers}
 use Rattle.psg_places.proofs.blaming.searched.Goals as goal
 
@@ -191,3 +191,21 @@ returns-clause-trials g c h le =
     (start_climb c.args.definition.now c.args.front c.args.tree.now (tree_in c.args.old.now) _ c.args.steps.now _ c.new-none.ensures.items
     c.tried.ensures.climb)
     (same_trials _ _ h (work_of c.args.tree.now) _ _ c.of.ensures (c.in_ok-kept.ensures.trials h few))
+
+pub returns-then-not-nothing-clause-climbs : goal.returns-then-not-nothing-clause-climbs
+returns-then-not-nothing-clause-climbs g c h le = (
+  c.tried.new.steps,
+  (start_climb c.args.definition.now c.args.front c.args.tree.now (tree_in c.args.old.now) _ c.args.steps.now _ c.new-none.ensures.items
+      c.tried.ensures.climb),
+  no_rounds c.args.definition.now c.args.front c.args.tree.now (tree_in c.args.old.now) h _ _,
+)
+
+pub returns-clause-climbs : goal.returns-clause-climbs
+returns-clause-climbs g c h le =
+    let few = subst (λ n. n ≤ 2 ^ h) (sym c.in_ok-nothing.ensures.trial.count) le in (
+      c.tried.new.steps,
+      (start_climb c.args.definition.now c.args.front c.args.tree.now (tree_in c.args.old.now) _ c.args.steps.now _ c.new-none.ensures.items
+      c.tried.ensures.climb),
+      same_rounds c.args.definition.now c.args.front c.args.tree.now (tree_in c.args.old.now) h _ _ c.of.result _ c.of.ensures
+          (c.in_ok-kept.ensures.climbs h few),
+    )

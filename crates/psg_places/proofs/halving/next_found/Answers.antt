@@ -1,7 +1,9 @@
 use Rattle.std.proofs.Common.{arith}
 use Rattle.psg_grammar.specs.Work.{work_of}
 use Rattle.psg_places.specs.Answers.{IsBlameFault}
+use Rattle.psg_cache.specs.Annotated.{tree_in}
 use Rattle.psg_places.proofs.AnswerLaws.{passed}
+use Rattle.psg_places.proofs.ClimbLaws.{round_all, round_fewer}
 use Rattle.psg_places.proofs.SearchLaws.{left_more, one_and_more, one_at_most}
 use Rattle.psg_places.proofs.halving.next_found.Goals as goal
 
@@ -30,3 +32,16 @@ pub returns-in_err-more-clause-ticks : goal.returns-in_err-more-clause-ticks
 returns-in_err-more-clause-ticks g c h le =
     one_and_more h (work_of c.args.tree.now) c.args.steps.now c.next_trial.new.steps c.most_kept.new.steps c.next_trial.ensures.ticks
     (c.most_kept.ensures.ticks h (omega (arith, le)))
+
+pub returns-then-trial-clause-round : goal.returns-then-trial-clause-round
+returns-then-trial-clause-round g c h le =
+    round_all c.args.definition.now c.args.front.now c.args.tree.now c.args.kept.now _ h (tree_in c.args.old.now)
+    (tree_in c.in_ok-trial.trial.note) c.args.steps.now c.next_trial.new.steps
+    (omega (arith, c.requires.count, c.requires.more.inside)) c.in_ok-trial.ensures.tree c.next_trial.ensures.climb
+
+pub returns-clause-round : goal.returns-clause-round
+returns-clause-round g c h le =
+    round_fewer c.args.definition.now c.args.front.now c.args.tree.now c.args.kept.now _ h (tree_in c.args.old.now)
+    (tree_in c.in_ok-trial.trial.note) c.args.steps.now c.next_trial.new.steps c.most_kept.new.steps
+    (omega (arith, c.requires.count, c.requires.more.inside)) c.in_ok-trial.ensures.tree c.next_trial.ensures.climb
+    (c.in_ok-more.ensures.climbs h (omega (arith, le)))

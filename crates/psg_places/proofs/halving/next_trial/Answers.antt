@@ -1,5 +1,7 @@
-use Rattle.std.proofs.Common.{◌≡◌, ◌↔◌, inr, true, subst, arith}
+use Rattle.std.proofs.Common.{◌≡◌, ◌↔◌, ◌+◌, ◌≤◌, inr, true, subst, arith}
 use Rattle.psg_grammar.specs.Open.{IsOpen}
+use Rattle.psg_cache.specs.Annotated.{tree_in}
+use Rattle.psg_cache.specs.Diff.{diff_of}
 use Rattle.psg_places.specs.declared.fault.BlameFault.TheVariants.{Memory}
 use Rattle.psg_places.specs.Answers.{IsBlameFault}
 use Rattle.psg_places.specs.Blame.{kept_in}
@@ -34,3 +36,21 @@ returns-clause-open g c =
     let def = c.args.definition.now in
     subst (λ xs. (c.in_ok-trial.trial.good ≡ true) ↔ IsOpen def (opened def (kept_in xs) (new_name c.args.front.now) c.args.tree.now))
     c.in_ok-next.ensures c.in_ok-trial.ensures.trial.opens
+
+pub returns-in_err-trial-clause-climb : goal.returns-in_err-trial-clause-climb
+returns-in_err-trial-clause-climb g c =
+    subst (λ xs. c.tried.new.steps ≤ c.args.steps.now + diff_of (tree_in c.args.old.now)
+    (opened c.args.definition.now (kept_in xs) (new_name c.args.front.now) c.args.tree.now)) c.in_ok-next.ensures
+    c.tried.ensures.climb
+
+pub returns-clause-climb : goal.returns-clause-climb
+returns-clause-climb g c =
+    subst (λ xs. c.tried.new.steps ≤ c.args.steps.now + diff_of (tree_in c.args.old.now)
+    (opened c.args.definition.now (kept_in xs) (new_name c.args.front.now) c.args.tree.now)) c.in_ok-next.ensures
+    c.tried.ensures.climb
+
+pub returns-clause-tree : goal.returns-clause-tree
+returns-clause-tree g c =
+    subst (λ xs. tree_in c.in_ok-trial.trial.note
+    ≡ opened c.args.definition.now (kept_in xs) (new_name c.args.front.now) c.args.tree.now) c.in_ok-next.ensures
+    c.in_ok-trial.ensures.trial.note.tree

@@ -1,4 +1,4 @@
-use Rattle.std.proofs.Common.{◌≡◌, inl, ◌<◌, ◌^◌, ◌∙◌, [], ap, sym, subst, arith}
+use Rattle.std.proofs.Common.{◌≡◌, inl, ◌+◌, ◌≤◌, ◌<◌, ◌^◌, ◌∙◌, [], ap, sym, subst, arith}
 use Rattle.psg_cache.specs.Notes.{IsNoteOf}
 use Rattle.psg_grammar.specs.WellFormed.{WellFormed}
 use Rattle.psg_grammar.specs.Work.{work_of}
@@ -58,3 +58,11 @@ returns-in-Err-clause-fault g c =
     limit_fault def front none tree c.requires.front (inl c.new-none.ensures.items) c.limit.result
     (tried_fault def front none tree c.limit.result c.in-Err.fault c.in_ok-opened.opened.tree c.limit.ensures
     (subst (λ n. n < 2 ^ 64) c.in_ok-opened.ensures.count c.held.ensures.small) is c.in-Err.ensures.fault)
+
+pub returns-in-Ok-clause-anew : goal.returns-in-Ok-clause-anew
+returns-in-Ok-clause-anew g c =
+    subst (λ t. c.build.new.steps ≤ c.args.steps.now + work_of t) c.in_ok-opened.ensures.tree c.build.ensures.bounded
+
+pub returns-in-Err-clause-anew : goal.returns-in-Err-clause-anew
+returns-in-Err-clause-anew g c =
+    subst (λ t. c.build.new.steps ≤ c.args.steps.now + work_of t) c.in_ok-opened.ensures.tree c.build.ensures.bounded
