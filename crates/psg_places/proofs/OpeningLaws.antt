@@ -1,5 +1,5 @@
 -- What the walks over parts and elements make, step by step.
-use Rattle.std.proofs.Common.{◌≡◌, ℕ, zero, suc, ◌+◌, ◌<◌, ◌≤◌, ◌||◌, ◌&&◌, not, Bool, true, false, cond, List, [], ◌∷◌, ◌++◌, length, take, drop, get_or, slice_get, refl, ap, ap₂, sym, ◌∙◌, arith}
+use Rattle.std.proofs.Common.{◌≡◌, ℕ, zero, suc, ◌+◌, ◌<◌, ◌≤◌, ◌||◌, ◌&&◌, not, Bool, true, false, cond, List, [], ◌∷◌, ◌++◌, length, take, drop, get_or, slice_get, refl, ap, ap₂, sym, ◌∙◌, arith, true≢false}
 use Rattle.std.specs.Prelude.{option_and_then}
 use Rattle.std.proofs.lemmas.List.{drop_all}
 use Rattle.psg_terms.proofs.Lists.{take_item, drop_item}
@@ -16,7 +16,7 @@ use Rattle.psg_places.specs.declared.opening.Opened.{Opened}
 use Rattle.psg_places.specs.declared.opening.OpenedPart.{OpenedPart}
 use Rattle.psg_places.specs.Places.{declared_count, declares_by, content_count, has_no_placeholder, is_hole, is_list, may_go_on, operator_of, phylum_in, phylum_of}
 use Rattle.psg_places.specs.Openings.{cells, child_at, contents_at, element_at, elements_declared, elements_size, fixed_declared, free_at, keep, part_at}
-use Rattle.psg_places.specs.Openings.{IsOpenedMember, IsOpenedPart, OpenTo, own_size, part_declared, part_places}
+use Rattle.psg_places.specs.Openings.{IsOpenedElement, IsOpenedMember, IsOpenedPart, OpenTo, own_size, part_declared, part_places}
 
 -- ---- the top of a tree
 
@@ -338,6 +338,17 @@ module _ (k : Keeping) where
       ≡ cond free 0 (fixed_declared k.definition.now x) + declared_count k.definition.now (list_of l rest u)
   declared_cell free l x rest u may =
       ap (λ b. cond b 0 (fixed_declared k.definition.now x) + declared_count k.definition.now (list_of l rest u)) may
+
+  pub member_kept : (free kept : Bool) (d n : ℕ) (e : Fragment) (o : Opened) → IsOpenedElement k free d n e o
+      → IsOpenedMember k free kept d n e o
+  member_kept free kept d n e o h = record { tree = λ yes. h.tree; declared = h.declared; others = h.others }
+
+  pub member_left : (free kept : Bool) (d n : ℕ) (e : Fragment) (o : Opened) → kept ≡ (not free || keep k n)
+      → kept ≡ false → (o.declared ≡ 0) × (o.others ≡ own_size k.definition.now true e)
+      → IsOpenedMember k free kept d n e o
+  member_left true kept d n e o is no h =
+      record { tree = λ yes. absurd (true≢false (sym yes ∙ no)); declared = h.0; others = h.1 }
+  member_left false kept d n e o is no h = absurd (true≢false (sym is ∙ no))
 
   -- the tree of an element is needed only where it is kept
   member_tree : (kept : Bool) (l : ℕ) (made : List Fragment) (x y R : Fragment) → (kept ≡ true → y ≡ x)
