@@ -17,6 +17,7 @@
 #![tactic(auto)]
 
 mod blaming;
+mod containing;
 mod counting;
 mod declaring;
 mod fault;
