@@ -1,5 +1,5 @@
 -- What trials take that are made beside earlier notes.
-use Rattle.std.proofs.Common.{◌≡◌, ◌⊎◌, inl, inr, ℕ, ◌+◌, ◌*◌, ◌^◌, ◌<◌, ◌≤◌, Bool, true, false, cond, List, [], ◌∷◌, length, Option, refl, ap, sym, ◌∙◌, subst, arith}
+use Rattle.std.proofs.Common.{◌≡◌, ◌⊎◌, inl, inr, ℕ, suc, ◌+◌, ◌*◌, ◌^◌, ◌<◌, ◌≤◌, Bool, true, false, cond, List, [], ◌∷◌, length, Option, refl, ap, sym, ◌∙◌, subst, arith}
 use Rattle.std.specs.List.{AllByRecursion}
 use Rattle.std.specs.Prelude.{Result, Ok, Err, IfOk}
 use Rattle.psg_terms.specs.Names.{Name}
@@ -175,7 +175,7 @@ module _ (def : Definition) (front : Name) (f : Fragment) where
 
   one_more_round : (n len places blamed next_len next : ℕ) (b : Bool)
       → (n ≤ blamed) ⊎ ((len ≡ places) × (n ≤ 1 + blamed)) → len < places → (b ≡ false → next_len ≡ places)
-      → next ≡ blamed + cond b 1 0 → (n + 1 ≤ next) ⊎ ((next_len ≡ places) × (n + 1 ≤ 1 + next))
+      → next ≡ blamed + cond b 1 0 → (suc n ≤ next) ⊎ ((next_len ≡ places) × (suc n ≤ 1 + next))
   one_more_round n len places blamed next_len next b (inr (all, le)) lt ends is = absurd (omega (arith, all, lt))
   one_more_round n len places blamed next_len next true (inl le) lt ends is = inl (omega (arith, le, is))
   one_more_round n len places blamed next_len next false (inl le) lt ends is = inr (ends refl, omega (arith, le, is))

@@ -341,14 +341,14 @@ module _ (k : Keeping) where
 
   pub member_kept : (free kept : Bool) (d n : ℕ) (e : Fragment) (o : Opened) → IsOpenedElement k free d n e o
       → IsOpenedMember k free kept d n e o
-  member_kept free kept d n e o h = record { tree = λ yes. h.tree; declared = h.declared; others = h.others }
+  member_kept free kept d n e o h = record { tree = λ in_it. h.tree; declared = h.declared; others = h.others }
 
   pub member_left : (free kept : Bool) (d n : ℕ) (e : Fragment) (o : Opened) → kept ≡ (not free || keep k n)
       → kept ≡ false → (o.declared ≡ 0) × (o.others ≡ own_size k.definition.now true e)
       → IsOpenedMember k free kept d n e o
-  member_left true kept d n e o is no h =
-      record { tree = λ yes. absurd (true≢false (sym yes ∙ no)); declared = h.0; others = h.1 }
-  member_left false kept d n e o is no h = absurd (true≢false (sym is ∙ no))
+  member_left true kept d n e o is out h =
+      record { tree = λ in_it. absurd (true≢false (sym in_it ∙ out)); declared = h.0; others = h.1 }
+  member_left false kept d n e o is out h = absurd (true≢false (sym is ∙ out))
 
   -- the tree of an element is needed only where it is kept
   member_tree : (kept : Bool) (l : ℕ) (made : List Fragment) (x y R : Fragment) → (kept ≡ true → y ≡ x)

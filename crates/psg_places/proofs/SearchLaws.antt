@@ -263,7 +263,7 @@ pub halved_more : (IsTree : Fragment → Type 0) (o t : Fragment) (h low high mi
     → IsHalved IsTree o h low high start now w → low + 1 < high
     → ((v : ℕ) → high ≤ low + (v + v) → (middle ≤ low + v) × (high ≤ middle + v)) → later ≤ now + w → IsTree t
     → later ≤ now + diff_of o t → IsHalved IsTree o h (cond b middle low) (cond b high middle) start later w
-halved_more IsTree o t h low high middle start now later w b s wide half more is climb =
+halved_more IsTree o t h low high middle start now later w b s wide half more tree climb =
     let (j, is, near) = some_left s.left low high wide s.near in
     let (lower, upper) = half (2 ^ j) near in
     let e : trials_work (suc s.made) w ≡ w + trials_work s.made w = one_trial s.made (suc s.made) w (omega arith) in
@@ -275,7 +275,7 @@ halved_more IsTree o t h low high middle start now later w b s wide half more is
       near = pick b lower upper;
       trees = t ∷ s.trees;
       many = omega (arith, s.many);
-      each = (is, s.each);
+      each = (tree, s.each);
       taken = taken_more (diff_of o t) (beside_work o s.trees) start now later s.taken climb;
     } where
       pick : (b : Bool) → middle ≤ low + 2 ^ (some_left s.left low high wide s.near).0 → high ≤ middle + 2 ^ (some_left s.left low high wide s.near).0

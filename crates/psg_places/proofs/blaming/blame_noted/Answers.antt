@@ -25,7 +25,7 @@ returns-clause-ticks g c h le =
 pub returns-clause-trials : goal.returns-clause-trials
 returns-clause-trials g c =
     ok_climb_trials c.args.definition.now c.in_ok-front.front c.args.tree.now c.requires.sound c.in_ok-front.ensures
-    c.requires.note.formed (tree_in c.args.note.now) c.searched.result _ _ c.searched.ensures.trials
+    c.requires.note.formed (tree_in c.args.note.now) c.searched.result _ _ _ c.searched.ensures.trials
 
 pub returns-clause-climbs : goal.returns-clause-climbs
 returns-clause-climbs g c =

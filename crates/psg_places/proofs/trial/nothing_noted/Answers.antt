@@ -57,7 +57,7 @@ returns-in-Err-clause-fault g c =
     let is = c.in_ok-opened.ensures.tree ∙ ap (λ xs. opened def (kept_in xs) (new_name front) tree) (sym c.new-none.ensures.items) in
     limit_fault def front none tree c.requires.front (inl c.new-none.ensures.items) c.limit.result
     (tried_fault def front none tree c.limit.result c.in-Err.fault c.in_ok-opened.opened.tree c.limit.ensures
-    (subst (λ n. n < 2 ^ 64) c.in_ok-opened.ensures.count c.held.ensures.small) is c.in-Err.ensures.fault)
+    (subst (λ n. n < 2 ^ 64) c.in_ok-opened.ensures.count c.held-places.ensures.small) is c.in-Err.ensures.fault)
 
 pub returns-in-Ok-clause-anew : goal.returns-in-Ok-clause-anew
 returns-in-Ok-clause-anew g c =
