@@ -45,3 +45,12 @@ returns-clause-round g c h le =
     (tree_in c.in_ok-trial.trial.note) c.args.steps.now c.next_trial.new.steps c.most_kept.new.steps
     (omega (arith, c.requires.count, c.requires.more.inside)) c.in_ok-trial.ensures.tree c.next_trial.ensures.climb
     (c.in_ok-more.ensures.climbs h (omega (arith, le)))
+
+pub returns-then-trial-clause-ticks : goal.returns-then-trial-clause-ticks
+returns-then-trial-clause-ticks g c h le =
+    one_at_most h (work_of c.args.tree.now) c.args.steps.now c.next_trial.new.steps c.next_trial.ensures.ticks
+
+pub returns-clause-ticks : goal.returns-clause-ticks
+returns-clause-ticks g c h le =
+    one_and_more h (work_of c.args.tree.now) c.args.steps.now c.next_trial.new.steps c.most_kept.new.steps c.next_trial.ensures.ticks
+    (c.most_kept.ensures.ticks h (omega (arith, le)))
