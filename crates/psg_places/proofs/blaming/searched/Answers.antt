@@ -205,7 +205,7 @@ returns-clause-climbs g c h le =
     let few = subst (λ n. n ≤ 2 ^ h) (sym c.in_ok-nothing.ensures.trial.count) le in (
       c.tried.new.steps,
       (start_climb c.args.definition.now c.args.front c.args.tree.now (tree_in c.args.old.now) _ c.args.steps.now _ c.new-none.ensures.items
-      c.tried.ensures.climb),
+          c.tried.ensures.climb),
       same_rounds c.args.definition.now c.args.front c.args.tree.now (tree_in c.args.old.now) h _ _ c.of.result _ c.of.ensures
           (c.in_ok-kept.ensures.climbs h few),
     )

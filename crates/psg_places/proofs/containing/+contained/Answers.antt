@@ -1,4 +1,4 @@
-use Rattle.std.proofs.Common.{◌∙◌, refl, false, cond, ap, sym, arith}
+use Rattle.std.proofs.Common.{◌∙◌, refl, false, cond, ap, arith}
 use Rattle.std.proofs.lemmas.List.{take_all}
 use Rattle.psg_grammar.specs.Fragments.{operator}
 use Rattle.psg_tree.specs.Shapes.{height, with_parts, list_of}

@@ -1,4 +1,4 @@
-use Rattle.std.proofs.Common.{◌≡◌, ◌+◌, ◌≤◌, [], refl, sym, subst}
+use Rattle.std.proofs.Common.{◌+◌, ◌≤◌, refl, sym, subst}
 use Rattle.std.specs.Prelude.{IfErr, IfOk}
 use Rattle.psg_grammar.specs.Paths.{replaced as replaced_at}
 use Rattle.psg_cache.specs.Annotated.{tree_in}
