@@ -8,7 +8,7 @@ use Rattle.psg_grammar.specs.Fragments.{Fragment}
 use Rattle.psg_grammar.specs.Sound.{IsSound}
 use Rattle.psg_grammar.specs.WellFormed.{WellFormed}
 use Rattle.psg_grammar.specs.Work.{work_of}
-use Rattle.psg_cache.specs.Annotated.{Annotated, tree_in}
+use Rattle.psg_cache.specs.Annotated.{Annotated}
 use Rattle.psg_cache.specs.Diff.{diff_below, diff_of}
 use Rattle.psg_cache.specs.Notes.{IsFormed, IsNoteOf}
 use Rattle.psg_cache.proofs.DiffLaws.{diff-same}

@@ -1,4 +1,4 @@
-use Rattle.std.proofs.Common.{◌≡◌, ◌↔◌, ◌∙◌, inl, true, ◌+◌, ◌*◌, ◌^◌, ◌≤◌, ap, sym, subst, arith}
+use Rattle.std.proofs.Common.{◌≡◌, ◌↔◌, ◌∙◌, inl, true, ◌+◌, ◌*◌, ◌^◌, ◌≤◌, ap, sym, subst}
 use Rattle.psg_grammar.specs.Legal.{IsCompletable}
 use Rattle.psg_grammar.specs.Open.{IsOpen}
 use Rattle.psg_grammar.specs.Printable.{IsPrintable}
@@ -7,7 +7,7 @@ use Rattle.psg_completions.proofs.Law.{open_or_completable}
 use Rattle.psg_places.specs.declared.fault.BlameFault.TheVariants.{Memory}
 use Rattle.psg_grammar.specs.Work.{work_of}
 use Rattle.psg_cache.specs.Annotated.{tree_in}
-use Rattle.psg_places.specs.Answers.{IsBlameFault, trials_work}
+use Rattle.psg_places.specs.Answers.{IsBlameFault}
 use Rattle.psg_places.specs.Blame.{AreAllAnswers, blamed_in, kept_in, most_blamed}
 use Rattle.psg_places.specs.NewNames.{new_name}
 use Rattle.psg_places.specs.Opened.{opened}

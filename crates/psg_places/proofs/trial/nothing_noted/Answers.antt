@@ -1,4 +1,4 @@
-use Rattle.std.proofs.Common.{◌≡◌, inl, ◌+◌, ◌≤◌, ◌<◌, ◌^◌, ◌∙◌, [], ap, sym, subst, arith}
+use Rattle.std.proofs.Common.{inl, ◌+◌, ◌≤◌, ◌<◌, ◌^◌, ◌∙◌, [], ap, sym, subst, arith}
 use Rattle.psg_cache.specs.Notes.{IsNoteOf}
 use Rattle.psg_grammar.specs.WellFormed.{WellFormed}
 use Rattle.psg_grammar.specs.Work.{work_of}
