@@ -1,3 +1,4 @@
 pub mod Readings
 pub mod Once
 pub mod Pieces
+pub mod Saying

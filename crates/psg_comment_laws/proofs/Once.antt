@@ -49,6 +49,7 @@ module _ (fixed : List Name) (token : List ℕ) (fit : IsFit fixed token) where
 
   pub only_comments : (all : Chars) (at : ℕ) (cs ds : List Comment) → HasComments fixed ts all at cs
       → HasComments fixed ts all at ds → cs ≡ ds
+  unfolding begun
   only_comments _ _ _ _ (nothing at) (nothing _) = refl
   only_comments _ _ _ _ (nothing at) (comment _ _ more b k) = absurd (no_comment_at_end b)
   only_comments _ _ _ _ (nothing at) (token_there _ front rest _ t more b e i k) =
@@ -106,6 +107,6 @@ pub one_reading : (fixed : List Name) (token : List ℕ) → IsFit fixed token �
 one_reading fixed token fit text cs ds one two h k =
     let e : cs ≡ ds = only_comments fixed token fit (chars text) 0 cs ds h.found k.found in
     record {
-      comments = e;
-      bytes = same_spaces text ds one two (subst (λ c. AreSpaces text c one) e h.spaces) k.spaces;
+      same_comments = e;
+      same_bytes = same_spaces text ds one two (subst (λ c. AreSpaces text c one) e h.spaces) k.spaces;
     }

@@ -308,6 +308,9 @@ filled_front front ps at f =
           ∙ sym (at_rest k (bytes_in ps) m)
     ]
 
+abbrev rest_in : ℕ → List ℕ → List Piece → List Comment
+rest_in at b ps = comments_in (at + length b) ps
+
 -- a comment before the pieces
 filled_comment : (b : List ℕ) (ps : List Piece) (at : ℕ)
     → AreFilled (at + length b) (comments_in (at + length b) ps) (bytes_in ps) (blank_bytes ps)
@@ -319,9 +322,6 @@ filled_comment b ps at f =
     ∙ ap (λ n. length b + n) f.size ∙ sym (length-append b (bytes_in ps)) in
     record { size = sizes; inside = inside; outside = outside }
   where
-    abbrev more : List Comment
-    more = comments_in (at + length b) ps
-
     later : (k : ℕ) → length b ≤ k → k < length (b ++ bytes_in ps) → k - length b < length (bytes_in ps)
     later k m l = omega (arith, m, l, length-append b (bytes_in ps))
 
@@ -334,33 +334,33 @@ filled_comment b ps at f =
         ap (λ n. get_or (front ++ rest) n 0) e ∙ get_or-append-add front rest (k - length b) 0
 
     -- a byte is one of the comment, or of the pieces
-    own : (k : ℕ) → k < length b → is_inside (from_to at (length b) ∷ more) (at + k) ≡ true
-    own k m = ap (λ q. (q && nat_lt (at + k) (at + length b)) || is_inside more (at + k)) (le-leb at (at + k) (omega arith))
-        ∙ ap (λ q. q || is_inside more (at + k)) (lt-ltb (at + k) (at + length b) (omega (arith, m)))
+    own : (k : ℕ) → k < length b → is_inside (from_to at (length b) ∷ rest_in at b ps) (at + k) ≡ true
+    own k m = ap (λ q. (q && nat_lt (at + k) (at + length b)) || is_inside (rest_in at b ps) (at + k)) (le-leb at (at + k) (omega arith))
+        ∙ ap (λ q. q || is_inside (rest_in at b ps) (at + k)) (lt-ltb (at + k) (at + length b) (omega (arith, m)))
 
     and_false : (q : Bool) → (q && false) ≡ false
     and_false true = refl
     and_false false = refl
 
-    other : (k : ℕ) → length b ≤ k → is_inside (from_to at (length b) ∷ more) (at + k) ≡ is_inside more (at + k)
-    other k m = ap (λ q. (nat_le at (at + k) && q) || is_inside more (at + k)) (le-ltb (at + k) (at + length b) (omega (arith, m)))
-        ∙ ap (λ q. q || is_inside more (at + k)) (and_false (nat_le at (at + k)))
+    other : (k : ℕ) → length b ≤ k → is_inside (from_to at (length b) ∷ rest_in at b ps) (at + k) ≡ is_inside (rest_in at b ps) (at + k)
+    other k m = ap (λ q. (nat_le at (at + k) && q) || is_inside (rest_in at b ps) (at + k)) (le-ltb (at + k) (at + length b) (omega (arith, m)))
+        ∙ ap (λ q. q || is_inside (rest_in at b ps) (at + k)) (and_false (nat_le at (at + k)))
 
-    inside : (k : ℕ) → k < length (b ++ bytes_in ps) → is_inside (from_to at (length b) ∷ more) (at + k) ≡ true
+    inside : (k : ℕ) → k < length (b ++ bytes_in ps) → is_inside (from_to at (length b) ∷ rest_in at b ps) (at + k) ≡ true
         → get_or (replicate (length b) 32 ++ blank_bytes ps) k 0 ≡ 32
     inside k l h = elim (cases_lt k (length b)) [
       | inl m ↦ get_or_append_left (replicate (length b) 32) (blank_bytes ps) 0 k (omega (arith, m, length-replicate {A = ℕ} (length b) 32))
           ∙ get_or-replicate (length b) k 32 0 m
       | inr m ↦ at_rest k (replicate (length b) 32) (blank_bytes ps) (length-replicate (length b) 32) m
-          ∙ f.inside (k - length b) (later k m l) (ap (is_inside more) (sym (there k m)) ∙ sym (other k m) ∙ h)
+          ∙ f.inside (k - length b) (later k m l) (ap (is_inside (rest_in at b ps)) (sym (there k m)) ∙ sym (other k m) ∙ h)
     ]
 
-    outside : (k : ℕ) → k < length (b ++ bytes_in ps) → is_inside (from_to at (length b) ∷ more) (at + k) ≡ false
+    outside : (k : ℕ) → k < length (b ++ bytes_in ps) → is_inside (from_to at (length b) ∷ rest_in at b ps) (at + k) ≡ false
         → get_or (replicate (length b) 32 ++ blank_bytes ps) k 0 ≡ get_or (b ++ bytes_in ps) k 0
     outside k l h = elim (cases_lt k (length b)) [
       | inl m ↦ absurd (true≢false (sym (own k m) ∙ h))
       | inr m ↦ at_rest k (replicate (length b) 32) (blank_bytes ps) (length-replicate (length b) 32) m
-          ∙ f.outside (k - length b) (later k m l) (ap (is_inside more) (sym (there k m)) ∙ sym (other k m) ∙ h)
+          ∙ f.outside (k - length b) (later k m l) (ap (is_inside (rest_in at b ps)) (sym (there k m)) ∙ sym (other k m) ∙ h)
           ∙ sym (at_rest k b (bytes_in ps) refl m)
     ]
 

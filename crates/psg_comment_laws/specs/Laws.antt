@@ -13,8 +13,8 @@ use Rattle.psg_commented.specs.Keeping.{IsCommented, IsLost}
 
 -- the same comments, and the same bytes without them
 pub record AreSame (comments others : List Comment) (bytes own : List ℕ) : Type 0 where
-  pub comments : comments ≡ others
-  pub bytes : bytes ≡ own
+  pub same_comments : comments ≡ others
+  pub same_bytes : bytes ≡ own
 
 -- The text has these comments. The printed text has these tokens, and as many of them are counted as of the text's own
 -- tokens, or more.
@@ -22,7 +22,7 @@ pub record IsPrinting (fixed : List Name) (token text : List ℕ) (ts : List Spa
     (printed : List ℕ) (shown : List Spanned) : Type 0 where
   pub utf8 : IsUtf8 text
   pub found : HasComments fixed (chars token) (chars text) 0 comments
-  pub printed : IsUtf8 printed
+  pub printed_utf8 : IsUtf8 printed
   pub are : HasTokens fixed (chars printed) 0 shown
   pub enough : count_by counts ts ≤ count_by counts shown
 
