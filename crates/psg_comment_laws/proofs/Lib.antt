@@ -2,3 +2,7 @@ pub mod Readings
 pub mod Once
 pub mod Pieces
 pub mod Saying
+pub mod Parting
+pub mod Printed
+pub mod Good
+pub mod Kept

@@ -1,6 +1,5 @@
-use Rattle.psg_comment_laws.proofs.Saying.{notes_due}
-use Rattle.psg_comment_laws.proofs.Pieces.{pieces_keep}
+use Rattle.psg_comment_laws.proofs.Kept.{keeps_all}
 use Rattle.psg_comment_laws.proofs.keeps_all.Goals as goal
 
 pub returns : goal.returns
-returns c = ?
+returns c = keeps_all c.args.words.now c.args.token.now c.requires.fit
