@@ -6,3 +6,5 @@ pub mod Parting
 pub mod Printed
 pub mod Good
 pub mod Kept
+pub mod Weights
+pub mod OfPrograms

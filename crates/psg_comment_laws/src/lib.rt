@@ -4,8 +4,11 @@
 //! same tokens as without them, and says the same comments in the same order, each after as many tokens.
 #![tactic(auto)]
 ghost use Rattle.psg_comment_laws.specs.Laws.{HasOneReading, KeepsAll, LosesNone};
+ghost use Rattle.psg_comment_laws.specs.Programs.{LosesNoneOfPrograms};
 ghost use Rattle.psg_comments.specs.Fitting.{IsFit};
+ghost use Rattle.psg_grammar.specs.WellFormed.{fixed_words};
 
+use psg_grammar::Definition;
 use psg_terms::Txt;
 
 /// States that a text has its comments in one way, for these fixed words of a language and this token of comments: no
@@ -28,4 +31,11 @@ pub fn keeps_all(words: &[Txt], token: &str)
 pub fn loses_none(words: &[Txt], token: &str)
     requires fit { IsFit words.now token.now }
     ensures { LosesNone words.now token.now }
+{}
+
+/// States that no printed text of a program loses the program's comments, where it reads as the same tree as the text
+/// without them. Both texts have as many tokens, if round brackets are not counted. The call has no cost.
+pub fn programs_lose_none(definition: &Definition, token: &str)
+    requires fit { IsFit (fixed_words definition.now) token.now }
+    ensures { LosesNoneOfPrograms definition.now token.now }
 {}
