@@ -34,25 +34,25 @@ word_feed = refl
 
 -- the same in the text, and in the text without its comments
 record FollowsBoth (old : Chars) (ps : List Piece) : Type 0 where
-  text : Follows old (chars_in ps)
+  full : Follows old (chars_in ps)
   bare : Follows old (blank_chars ps)
 
 same_first : (c : ℕ) (xs : Chars) (ps : List Piece) (ys zs : Chars) → chars_in ps ≡ c ∷ ys → blank_chars ps ≡ c ∷ zs
     → FollowsBoth (c ∷ xs) ps
 same_first c xs ps ys zs e d = record {
-  text = record { ends = λ test s f h. subst (EndsBy test) (sym e) h };
+  full = record { ends = λ test s f h. subst (EndsBy test) (sym e) h };
   bare = record { ends = λ test s f h. subst (EndsBy test) (sym d) h };
 }
 
 feed_follows : (old : Chars) (ps : List Piece) → FollowsBoth old (a_blank 10 ∷ ps)
 feed_follows old ps = record {
-  text = record { ends = λ test s f h. f };
+  full = record { ends = λ test s f h. f };
   bare = record { ends = λ test s f h. f };
 }
 
 space_follows : (old : Chars) (ps : List Piece) → FollowsBoth old (a_blank 32 ∷ ps)
 space_follows old ps = record {
-  text = record { ends = λ test s f h. s };
+  full = record { ends = λ test s f h. s };
   bare = record { ends = λ test s f h. s };
 }
 
@@ -191,7 +191,7 @@ module _ (fixed : List Name) (token : List ℕ) (fit : IsFit fixed token) where
       let f : FollowsBoth (part_chars ps tail) rest = pieces_follow fixed ps tail g.1 next (level_after level p.gap) (drop k notes) in
       let there : IsThere fixed token p.front (chars_in rest) (blank_chars rest) p.token = record {
         scalars = g.0.scalars;
-        with_comments = token_moved fixed f.text g.0.is;
+        with_comments = token_moved fixed f.full g.0.is;
         without = token_moved fixed f.bare g.0.is;
       } in
       good_gap level p.gap (take k notes) g.0.blanks (said_take k notes a) (a_token p.front p.token ∷ rest)

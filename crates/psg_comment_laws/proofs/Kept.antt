@@ -30,7 +30,7 @@ span_tokens (p ∷ ps) from = ap (λ l. p.token ∷ l) (span_tokens ps _)
 due_higher : (low high more : ℕ) (ns : List Note) → high ≤ more → AreDue low high ns → AreDue low more ns
 due_higher low high more [] l d = tt
 due_higher low high more (n ∷ ns) l d =
-    ((d.0.0, let k = d.0.1 in omega (arith, l, k)), due_higher n.before high more ns l d.1)
+    let k = d.0.1 in ((d.0.0, omega (arith, l, k)), due_higher n.before high more ns l d.1)
 
 due_up : (high more : ℕ) (ns : List Note) → high ≤ more → (low : ℕ) → AreDue low high ns → AreDue 0 more ns
 due_up high more ns l low d = due_from low 0 more ns (omega arith) (due_higher low high more ns l d)

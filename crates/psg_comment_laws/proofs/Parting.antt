@@ -98,7 +98,7 @@ module _ (fixed : List Name) where
       }
   parted _ _ _ (next all at t us b k) s gap from a e =
       let known : all_scalars (b.front ++ b.rest) ≡ true = subst (λ cs. all_scalars cs ≡ true) b.whole s in
-      let zero : t.end ≡ t.end + length {A = ℕ} [] = omega arith in
+      let zero : t.end ≡ t.end + 0 = omega arith in
       let r : IsParted [] b.rest t.end us =
       parted b.rest t.end us k (scalars_rest b.front b.rest known) [] t.end tt zero in
       let starts : t.start ≡ from + length gap = b.starts ∙ e in

@@ -63,7 +63,7 @@ comments_in at (a_blank c ∷ ps) = comments_in (at + 1) ps
 comments_in at (a_token cs t ∷ ps) = comments_in (at + bytes_of cs) ps
 comments_in at (a_comment b ∷ ps) = from_to at (length b) ∷ comments_in (at + length b) ps
 
-abbrev span : ℕ → Chars → Token → Spanned
+abbrev pub span : ℕ → Chars → Token → Spanned
 span at cs t = record { token = t; start = at; end = at + bytes_of cs }
 
 abbrev pub own_in : ℕ → List Piece → List Spanned
@@ -142,7 +142,7 @@ module _ (fixed : List Name) (token : List ℕ) where
     pub some : 0 < length b
     pub line : (rest : Chars) → line_of (chars b ++ 10 ∷ rest) ≡ chars b
     pub after : (rest : Chars) → after_line (chars b ++ 10 ∷ rest) ≡ 10 ∷ rest
-    pub trimmed : trimmed b ≡ b
+    pub no_blanks : trimmed b ≡ b
 
   abbrev pub BeginsFeed : Chars → Type 0
   BeginsFeed cs = (rest : Chars) × (cs ≡ 10 ∷ rest)
@@ -264,7 +264,7 @@ none_before [] at place l = refl
 none_before (a_blank c ∷ ps) at place l = none_before ps (at + 1) place (omega (arith, l))
 none_before (a_token cs t ∷ ps) at place l = none_before ps (at + bytes_of cs) place (omega (arith, l))
 none_before (a_comment b ∷ ps) at place l =
-    ap (λ q. (q && nat_lt place (at + length b)) || is_inside (comments_in (at + length b) ps) place) (lt-leb place at l)
+    ap (λ q. (q && nat_lt place (at + length b)) || is_inside (comments_in (at + length b) ps) place) (lt-leb at place l)
     ∙ none_before ps (at + length b) place (omega (arith, l))
 
 record AreFilled (at : ℕ) (comments : List Comment) (text bytes : List ℕ) : Type 0 where
@@ -349,7 +349,7 @@ filled_comment b ps at f =
     inside : (k : ℕ) → k < length (b ++ bytes_in ps) → is_inside (from_to at (length b) ∷ rest_in at b ps) (at + k) ≡ true
         → get_or (replicate (length b) 32 ++ blank_bytes ps) k 0 ≡ 32
     inside k l h = elim (cases_lt k (length b)) [
-      | inl m ↦ get_or_append_left (replicate (length b) 32) (blank_bytes ps) 0 k (omega (arith, m, length-replicate {A = ℕ} (length b) 32))
+      | inl m ↦ get_or_append_left (replicate (length b) 32) (blank_bytes ps) 0 k (omega (arith, m, length-replicate (length b) 32))
           ∙ get_or-replicate (length b) k 32 0 m
       | inr m ↦ at_rest k (replicate (length b) 32) (blank_bytes ps) (length-replicate (length b) 32) m
           ∙ f.inside (k - length b) (later k m l) (ap (is_inside (rest_in at b ps)) (sym (there k m)) ∙ sym (other k m) ∙ h)
@@ -409,7 +409,7 @@ are_said fixed token (a_token cs t ∷ ps) g front text at own e n =
     (omega (arith, n, length-append front (encode_utf8_all cs)))
 are_said fixed token (a_comment b ∷ ps) g front text at own e n =
     let first : trimmed (bytes_between text at (at + length b)) ≡ b =
-    ap (λ bs. trimmed (bytes_between bs at (at + length b))) e ∙ ap trimmed (between_seam front b (bytes_in ps) at n) ∙ g.0.0.trimmed in
+    ap (λ bs. trimmed (bytes_between bs at (at + length b))) e ∙ ap trimmed (between_seam front b (bytes_in ps) at n) ∙ g.0.0.no_blanks in
     let rest : map words_of (notes_of text own (comments_in (at + length b) ps)) ≡ says_in ps =
     are_said fixed token ps g.1 (front ++ b) text (at + length b) own
     (e ∙ sym (append_assoc front b (bytes_in ps)))
@@ -424,7 +424,7 @@ none_ended : (ps : List Piece) (at place : ℕ) → place < at → ended_by (own
 none_ended [] at place l = refl
 none_ended (a_blank c ∷ ps) at place l = none_ended ps (at + 1) place (omega (arith, l))
 none_ended (a_token cs t ∷ ps) at place l =
-    ap (λ q. cond q (1 + ended_by (own_in (at + bytes_of cs) ps) place) 0) (lt-leb place (at + bytes_of cs) (omega (arith, l)))
+    ap (λ q. cond q (1 + ended_by (own_in (at + bytes_of cs) ps) place) 0) (lt-leb (at + bytes_of cs) place (omega (arith, l)))
 none_ended (a_comment b ∷ ps) at place l = none_ended ps (at + length b) place (omega (arith, l))
 
 -- after a token that ends before the place
@@ -446,14 +446,15 @@ are_placed fixed token (a_blank c ∷ ps) g text at seen us h =
     are_placed fixed token ps g.1 text (at + 1) seen us (λ place l. h place (omega (arith, l)))
 are_placed fixed token (a_token cs t ∷ ps) g text at seen us h =
     are_placed fixed token ps g.1 text (at + bytes_of cs) (seen + cond (is_counted t) 1 0) us (λ place l.
-    let k = h place (omega (arith, l)) in
-    let m = seen_more (span at cs t) (own_in (at + bytes_of cs) ps) place l in
+    let k : seen_by us place ≡ seen + seen_by (span at cs t ∷ own_in (at + bytes_of cs) ps) place = h place (omega (arith, l)) in
+    let m : seen_by (span at cs t ∷ own_in (at + bytes_of cs) ps) place ≡ cond (is_counted t) 1 0 + seen_by (own_in (at + bytes_of cs) ps) place =
+    seen_more (span at cs t) (own_in (at + bytes_of cs) ps) place l in
     omega (arith, k, m))
 are_placed fixed token (a_comment b ∷ ps) g text at seen us h =
     let some = g.0.0.some in
     let none : ended_by (own_in (at + length b) ps) at ≡ 0 = none_ended ps (at + length b) at (omega (arith, some)) in
     let zero_seen : seen_by (own_in (at + length b) ps) at ≡ 0 = ap (λ m. count_by counts (take m (own_in (at + length b) ps))) none in
-    let k = h at (omega arith) in
+    let k : seen_by us at ≡ seen + seen_by (own_in (at + length b) ps) at = h at (omega arith) in
     let first : seen_by us at ≡ seen = omega (arith, k, zero_seen) in
     let rest : map place_of (notes_of text us (comments_in (at + length b) ps)) ≡ places_in seen ps =
     are_placed fixed token ps g.1 text (at + length b) seen us (λ place l. h place (omega (arith, l))) in

@@ -5,13 +5,11 @@ use Rattle.std.specs.List.{AllByRecursion, prefix_len}
 use Rattle.std.proofs.lemmas.Bool.{cases_Bool, false≢true, true≢false}
 use Rattle.std.proofs.lemmas.Bool.Decides.{nat_tests}
 use Rattle.std.proofs.lemmas.List.{map-append, take-append-drop}
-use Rattle.unicode_ident.proofs.Computing.{unicode_ident}
 use Rattle.psg_terms.specs.Names.{Name}
-use Rattle.psg_terms.specs.Words.{goes_on_word, IsWord}
 use Rattle.psg_lexis.specs.Classes.{Chars, is_blank, is_digit, is_symbol, EndsBy, BeginsBy}
-use Rattle.psg_lexis.specs.Tokens.{bytes_of, IsToken, word, number, text, solo, symbol, hole, more}
+use Rattle.psg_lexis.specs.Tokens.{bytes_of}
 use Rattle.psg_lexis.specs.declared.token.Token.{Token}
-use Rattle.psg_lexis.specs.declared.token.Token.TheVariants as tokens
+use Rattle.psg_lexis.specs.declared.token.Token.TheVariants as lexed
 use Rattle.psg_lexis.specs.declared.token.Spanned.{Spanned}
 use Rattle.psg_comments.specs.Fitting.{IsFit}
 use Rattle.psg_commented.specs.Noting.{bytes_between, is_counted}
@@ -252,17 +250,17 @@ split_due (n ∷ ns) seen high d = by (nat_le n.before seen) refl (λ e. split_d
     }
 
 closes_uncounted : (t : Token) → closes t ≡ true → is_counted t ≡ false
-closes_uncounted (tokens.Solo c) h = ap not (ap (λ b. (c == 40) || b) h ∙ or_true (c == 40))
+closes_uncounted (lexed.Solo c) h = ap not (ap (λ b. (c == 40) || b) h ∙ or_true (c == 40))
   where
     or_true : (b : Bool) → (b || true) ≡ true
     or_true true = refl
     or_true false = refl
-closes_uncounted (tokens.Word w) h = absurd (false≢true h)
-closes_uncounted (tokens.Number w) h = absurd (false≢true h)
-closes_uncounted (tokens.Text w) h = absurd (false≢true h)
-closes_uncounted (tokens.Symbol w) h = absurd (false≢true h)
-closes_uncounted (tokens.Hole w) h = absurd (false≢true h)
-closes_uncounted tokens.More h = absurd (false≢true h)
+closes_uncounted (lexed.Word w) h = absurd (false≢true h)
+closes_uncounted (lexed.Number w) h = absurd (false≢true h)
+closes_uncounted (lexed.Text w) h = absurd (false≢true h)
+closes_uncounted (lexed.Symbol w) h = absurd (false≢true h)
+closes_uncounted (lexed.Hole w) h = absurd (false≢true h)
+closes_uncounted lexed.More h = absurd (false≢true h)
 
 -- before a token, and after it
 record IsBefore (t : Token) (seen high : ℕ) (notes : List Note) : Type 0 where
@@ -279,7 +277,8 @@ before_token t seen high notes d = by (closes t) refl
     by : (b : Bool) → closes t ≡ b → IsBefore t seen high notes
     by true e =
         let none : due t seen notes ≡ 0 = ap (λ q. cond q 0 (prefix_len (is_due seen) notes)) e in
-        let same : seen ≡ seen + cond (is_counted t) 1 0 = ap (λ q. seen + cond q 1 0) (sym (closes_uncounted t e)) ∙ omega arith in
+        let zero : seen ≡ seen + 0 = omega arith in
+        let same : seen ≡ seen + cond (is_counted t) 1 0 = zero ∙ ap (λ q. seen + cond q 1 0) (sym (closes_uncounted t e)) in
         record {
           here = subst (λ k. map (λ (n : Note). seen) (take k notes) ≡ map place_of (take k notes)) (sym none) refl;
           later = subst (λ k. AreDue (seen + cond (is_counted t) 1 0) high (drop k notes)) (sym none) (subst (λ m. AreDue m high notes) same d);
@@ -331,10 +330,12 @@ told [] seen level high notes d e =
 told (p ∷ ps) seen level high notes d e =
     let k : ℕ = due p.token seen notes in
     let next : ℕ = seen + cond (is_counted p.token) 1 0 in
+    let whole : high ≡ seen + (cond (is_counted p.token) 1 0 + counted ps) = e in
+    let left : high ≡ seen + cond (is_counted p.token) 1 0 + counted ps = omega (arith, whole) in
     let b : IsBefore p.token seen high notes = before_token p.token seen high notes d in
     let more : List Piece = a_token p.front p.token ∷ pieces next (level_after level p.gap) ps (drop k notes) in
     let r : AreTold (pieces next (level_after level p.gap) ps (drop k notes)) next ps (drop k notes) =
-    told ps next (level_after level p.gap) high (drop k notes) b.later (omega (arith, e)) in
+    told ps next (level_after level p.gap) high (drop k notes) b.later left in
     let q : AreQuiet (gap_pieces level p.gap (take k notes)) (take k notes) = quiet_gap level p.gap (take k notes) in
     record {
       tokens = q.tokens more ∙ ap (λ l. p.token ∷ l) r.tokens;

@@ -164,7 +164,8 @@ module _ (b : List ℕ) (u : IsUtf8 b) where
   white_from : (k : ℕ) → cut ≤ k → k < length b → white (get_or b k 0) ≡ true
   white_from k l m =
       let j : ℕ = length b - 1 - k in
-      let near : j < prefix_len is_ascii_whitespace (reverse b) = omega (arith, l, m) in
+      let far : length b - prefix_len is_ascii_whitespace (reverse b) ≤ k = l in
+      let near : length b - 1 - k < prefix_len is_ascii_whitespace (reverse b) = omega (arith, far, m) in
       let in_b : j < length b = omega (arith, m) in
       let same : length b - 1 - j ≡ k = omega (arith, m) in
       ap white (ap (λ n. get_or b n 0) (sym same) ∙ sym (get_or-reverse b j 0 in_b))
@@ -173,8 +174,9 @@ module _ (b : List ℕ) (u : IsUtf8 b) where
   not_white : 0 < cut → white (get_or b (cut - 1) 0) ≡ false
   not_white h =
       let n : ℕ = prefix_len is_ascii_whitespace (reverse b) in
-      let in_b : n < length b = omega (arith, h) in
-      let same : length b - 1 - n ≡ cut - 1 = omega arith in
+      let some : 0 < length b - prefix_len is_ascii_whitespace (reverse b) = h in
+      let in_b : prefix_len is_ascii_whitespace (reverse b) < length b = omega (arith, some) in
+      let same : length b - 1 - prefix_len is_ascii_whitespace (reverse b) ≡ length b - prefix_len is_ascii_whitespace (reverse b) - 1 = omega arith in
       ap white (ap (λ m. get_or b m 0) (sym same) ∙ sym (get_or-reverse b n 0 in_b))
       ∙ prefix_len_stops is_ascii_whitespace (reverse b) 0 (omega (arith, in_b, length-reverse b))
 
@@ -265,7 +267,7 @@ module _ (fixed : List Name) (token : List ℕ) (fit : IsFit fixed token) where
         some = some_begun (kept b u) own;
         line = λ rest. (line_stops (chars (kept b u)) others (kept_no_return b u) rest).0;
         after = λ rest. (line_stops (chars (kept b u)) others (kept_no_return b u) rest).1;
-        trimmed = kept_again b u;
+        no_blanks = kept_again b u;
       }
 
   abbrev pub AreSaid : List Note → Type 0
@@ -311,7 +313,7 @@ AreDue low high (n ∷ ns) = ((low ≤ n.before) × (n.before ≤ high)) × AreD
 
 pub due_from : (low least high : ℕ) (ns : List Note) → least ≤ low → AreDue low high ns → AreDue least high ns
 due_from low least high [] l d = tt
-due_from low least high (n ∷ ns) l d = ((let k = d.0.0 in omega (arith, l, k), d.0.1), d.1)
+due_from low least high (n ∷ ns) l d = let k = d.0.0 in ((omega (arith, l, k), d.0.1), d.1)
 
 seen_grows : (us : List Spanned) (a b : ℕ) → a ≤ b → seen_by us a ≤ seen_by us b
 seen_grows us a b l =

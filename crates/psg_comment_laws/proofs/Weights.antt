@@ -22,7 +22,7 @@ use Rattle.psg_grammar.specs.declared.types.Operator.{Operator}
 use Rattle.psg_grammar.specs.Fragments.{Fragment, hole, ending, cell, operator, with_child, with_name, with_number, with_text, anything, observed}
 use Rattle.psg_grammar.specs.WellFormed.{fixed_words}
 use Rattle.psg_class.specs.Places.{solid}
-use Rattle.psg_class.specs.Terminals.{Token, word, numeral, quoted, solo, symbols, placeholder, dots, Terminal, fixed, a_name, is_word, is_run, are_word, word_terminal, fixed_if, terminal_of}
+use Rattle.psg_class.specs.Terminals.{Token, word, numeral, quoted, solo, symbols, placeholder, dots, Terminal, fixed, a_name, a_number, a_text, a_hole, a_more, stray, is_word, is_run, are_word, word_terminal, fixed_if, terminal_of}
 use Rattle.psg_class.specs.Texts.{tokens_of}
 use Rattle.psg_class.specs.Yields.{TreeYields, of_hole, of_operator, in_brackets, PartsYield, no_items, of_word, of_refers, of_declares, of_number, of_text, of_slot, of_list_slot, ListYields, no_elements, only_more, elements, SomeYield, last_element, and_more, and_elements, Yields}
 use Rattle.psg_commented.specs.Noting.{counts, is_counted}
@@ -81,22 +81,22 @@ module _ (def : Definition) where
     where
       by : (a : Bool) → is_word x ≡ a → (b : Bool) → word_terminal x a b ≡ fixed w → 1 ≡ word_weight w
       by true k true f = ap (λ b. cond b 0 1) (sym (word_apart x k)) ∙ ap word_weight (same_fixed x w f)
-      by true k false f = absurd (cc)
-      by false k b f = absurd (cc)
+      by true k false f = let y : a_name ≡ fixed w = f in absurd (cc)
+      by false k b f = let y : stray ≡ fixed w = f in absurd (cc)
   token_weight (solo c) w e = by (is_solo c) e
     where
       by : (a : Bool) → fixed_if a (c ∷ []) ≡ fixed w → cond (not ((c == 40) || (c == 41))) 1 0 ≡ word_weight w
       by true f = not_cond ((c == 40) || (c == 41)) ∙ ap word_weight (same_fixed (c ∷ []) w f)
-      by false f = absurd (cc)
+      by false f = let y : stray ≡ fixed w = f in absurd (cc)
   token_weight (symbols x) w e = by (is_run x) refl e
     where
       by : (a : Bool) → is_run x ≡ a → fixed_if a x ≡ fixed w → 1 ≡ word_weight w
       by true k f = ap (λ b. cond b 0 1) (sym (run_apart x k)) ∙ ap word_weight (same_fixed x w f)
-      by false k f = absurd (cc)
-  token_weight (numeral n) w e = absurd (cc)
-  token_weight (quoted s) w e = absurd (cc)
-  token_weight (placeholder p) w e = absurd (cc)
-  token_weight dots w e = absurd (cc)
+      by false k f = let y : stray ≡ fixed w = f in absurd (cc)
+  token_weight (numeral n) w e = let y : a_number ≡ fixed w = e in absurd (cc)
+  token_weight (quoted s) w e = let y : a_text ≡ fixed w = e in absurd (cc)
+  token_weight (placeholder p) w e = let y : a_hole p ≡ fixed w = e in absurd (cc)
+  token_weight dots w e = let y : a_more ≡ fixed w = e in absurd (cc)
 
   -- ---- the weight of a tree
 
