@@ -66,18 +66,18 @@ end_follows : (old : Chars) (level : ℕ) (b : Bool) (xs ys : List Piece)
 end_follows old level true xs ys = space_follows old (xs ++ ys)
 end_follows old level false xs ys = feed_follows old ((map a_blank (replicate level 32) ++ xs) ++ ys)
 
-some_begun : (test : ℕ → Bool) → BeginsBy test [] → ⊥
-some_begun test b = false≢true b
+no_cons : (c : ℕ) (cs : Chars) → c ∷ cs ≡ [] → ⊥
+no_cons c cs h = cc
 
 module _ (fixed : List Name) where
   token_some : {cs rest : Chars} {t : Token} → IsToken fixed cs rest t → cs ≡ [] → ⊥
   token_some (word cs rest w e l) h = subst IsWord h w
   token_some (number cs rest r e l) h = false≢true (subst (BeginsBy is_digit) h r.begins)
-  token_some (text cs written rest e a l) h = cc
-  token_some (solo c rest s) h = cc
+  token_some (text cs written rest e a l) h = no_cons 34 written h
+  token_some (solo c rest s) h = no_cons c [] h
   token_some (symbol cs rest r i d) h = false≢true (subst (BeginsBy is_symbol) h r.begins)
-  token_some (hole cs rest w e l) h = cc
-  token_some (more rest e) h = cc
+  token_some (hole cs rest w e l) h = no_cons 63 cs h
+  token_some (more rest e) h = no_cons 46 (46 ∷ 46 ∷ []) h
 
   token_moved : {front old new : Chars} {t : Token} → Follows old new → IsToken fixed front old t
       → IsToken fixed front new t

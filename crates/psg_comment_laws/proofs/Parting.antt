@@ -4,6 +4,7 @@ use Rattle.std.specs.Prelude.{encode_utf8_all, count_by, ◌&&◌, IsTrue}
 use Rattle.std.specs.Str.{all_scalars}
 use Rattle.std.specs.List.{AllByRecursion}
 use Rattle.std.proofs.lemmas.Bool.{and_parts}
+use Rattle.std.proofs.lemmas.List.Sums.{sum_by-cons}
 use Rattle.std.proofs.lemmas.Str.{encodes-append, encode_ascii}
 use lib.Utf8.{scalar}
 use Rattle.psg_terms.specs.Names.{Name}
@@ -44,7 +45,8 @@ counted (p ∷ ps) = cond (is_counted p.token) 1 0 + counted ps
 pub counted_is : (ps : List Part) (from : ℕ) → count_by counts (spans_of from ps) ≡ counted ps
 counted_is [] from = refl
 counted_is (p ∷ ps) from =
-    ap (λ n. cond (is_counted p.token) 1 0 + n) (counted_is ps (from + length p.gap + bytes_of p.front))
+    sum_by-cons (λ t. cond (counts t) 1 0) (part_span from p) (spans_of (from + length p.gap + bytes_of p.front) ps)
+    ∙ ap (λ n. cond (is_counted p.token) 1 0 + n) (counted_is ps (from + length p.gap + bytes_of p.front))
 
 abbrev pub AreBlank : List ℕ → Type 0
 AreBlank bs = AllByRecursion (λ c. IsTrue (is_blank c)) bs

@@ -6,6 +6,7 @@ use Rattle.std.specs.Str.{all_scalars}
 use Rattle.std.proofs.Math.Seq.{drop-append_seam}
 use Rattle.std.proofs.lemmas.Bool.{and_parts, eqb-true, false≢true, true≢false, cases_lt, lt-ltb, le-leb, le-ltb, lt-leb}
 use Rattle.std.proofs.lemmas.List.{take_at, get_or_append_left, get_or-append-add, get_or-replicate, length-replicate}
+use Rattle.std.proofs.lemmas.List.Sums.{sum_by-cons}
 use Rattle.std.proofs.lemmas.Str.{encodes-append, encodes-chars, chars-encodes, scalars-chars, encode_ascii}
 use lib.Utf8.{scalar}
 use Rattle.psg_terms.specs.Names.{Name}
@@ -349,7 +350,7 @@ filled_comment b ps at f =
     inside : (k : ℕ) → k < length (b ++ bytes_in ps) → is_inside (from_to at (length b) ∷ rest_in at b ps) (at + k) ≡ true
         → get_or (replicate (length b) 32 ++ blank_bytes ps) k 0 ≡ 32
     inside k l h = elim (cases_lt k (length b)) [
-      | inl m ↦ get_or_append_left (replicate (length b) 32) (blank_bytes ps) 0 k (omega (arith, m, length-replicate (length b) 32))
+      | inl m ↦ get_or_append_left (replicate (length b) 32) (blank_bytes ps) 0 k (omega (arith, m, length-replicate {A = ℕ} (length b) 32))
           ∙ get_or-replicate (length b) k 32 0 m
       | inr m ↦ at_rest k (replicate (length b) 32) (blank_bytes ps) (length-replicate (length b) 32) m
           ∙ f.inside (k - length b) (later k m l) (ap (is_inside (rest_in at b ps)) (sym (there k m)) ∙ sym (other k m) ∙ h)
@@ -434,6 +435,7 @@ seen_more s us place l =
     let n : ended_by (s ∷ us) place ≡ suc (ended_by us place) =
     ap (λ q. cond q (1 + ended_by us place) 0) (le-leb s.end place l) ∙ one (ended_by us place) in
     ap (λ m. count_by counts (take m (s ∷ us))) n
+    ∙ sum_by-cons (λ t. cond (counts t) 1 0) s (take (ended_by us place) us)
   where
     one : (m : ℕ) → 1 + m ≡ suc m
     one m = omega arith

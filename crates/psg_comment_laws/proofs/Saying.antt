@@ -113,9 +113,9 @@ after_no_symbol (c ∷ cs) = by (is_end (c ∷ cs)) refl (after_no_symbol cs)
     by true e rest = untrue _ (λ h. false≢true (sym (symbol_goes_on c cs h) ∙ e))
     by false e rest = rest
 
-all_front : {P : ℕ → Type 0} (xs ys : Chars) → AllByRecursion P (xs ++ ys) → AllByRecursion P xs
-all_front [] ys a = tt
-all_front (x ∷ xs) ys a = (a.0, all_front xs ys a.1)
+others_front : (xs ys : Chars) → AllByRecursion IsOther (xs ++ ys) → AllByRecursion IsOther xs
+others_front [] ys a = tt
+others_front (x ∷ xs) ys a = (a.0, others_front xs ys a.1)
 
 pub scalars_front : (xs ys : Chars) → all_scalars (xs ++ ys) ≡ true → all_scalars xs ≡ true
 scalars_front [] ys h = refl
@@ -260,7 +260,7 @@ module _ (fixed : List Name) (token : List ℕ) (fit : IsFit fixed token) where
       begins_run (chars (kept b u)) (ending b u) ts fit.symbols (first_ends b u (ending b u) (ending_white b u))
       (subst (λ cs. begins_with cs ts ≡ true) parts begun) in
       let others : AllByRecursion IsOther (chars (kept b u)) =
-      all_front (chars (kept b u)) (ending b u) (subst (AllByRecursion IsOther) parts (line_others all)) in
+      others_front (chars (kept b u)) (ending b u) (subst (AllByRecursion IsOther) parts (line_others all)) in
       record {
         utf8 = kept_utf8 b u;
         begins = own;

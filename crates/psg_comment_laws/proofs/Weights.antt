@@ -3,7 +3,7 @@ use Rattle.std.proofs.Common.{◌≡◌, ℕ, ◌+◌, ◌==◌, Bool, true, fal
 use Rattle.std.specs.Prelude.{bytes_eq, chars, codes, count_by, encode_utf8_all, not, ◌&&◌, ◌||◌}
 use Rattle.std.specs.List.{list_all}
 use Rattle.std.proofs.lemmas.Bool.{and_parts, eqb-true, false≢true}
-use Rattle.std.proofs.lemmas.List.Sums.{sum_by-append}
+use Rattle.std.proofs.lemmas.List.Sums.{sum_by-cons}
 use Rattle.std.proofs.lemmas.Str.{chars-encodes, encode_ascii}
 use lib.Utf8.{scalar}
 use Rattle.psg_terms.specs.Names.{Name, is_among}
@@ -135,10 +135,12 @@ module _ (def : Definition) where
   weight (observed f) = 0
 
   abbrev count : List Token → ℕ
-  count ts = count_by is_counted ts
+  count [] = 0
+  count (t ∷ ts) = cond (is_counted t) 1 0 + count ts
 
   count_append : (xs ys : List Token) → count (xs ++ ys) ≡ count xs + count ys
-  count_append xs ys = sum_by-append (λ t. cond (is_counted t) 1 0) xs ys
+  count_append [] ys = omega arith
+  count_append (x ∷ xs) ys = let k = count_append xs ys in omega (arith, k)
 
   some_goes_on : {f : Fragment} {l d : ℕ} {ts : List Token} → SomeYield def f l d ts → goes_on f ≡ true
   some_goes_on (last_element kind found y) = refl
@@ -148,8 +150,8 @@ module _ (def : Definition) where
   mutual
     tree_weight : {f : Fragment} {p level d : ℕ} {ts : List Token} → TreeYields def f p level d ts → count ts ≡ weight f
     tree_weight (of_hole phylum found closed) = refl
-    tree_weight (of_operator {f = f} n o found is least parts) =
-        let k = parts_weight parts in
+    tree_weight (of_operator {f = f} {ts = ts} n o found is least parts) =
+        let k : weight f + words_in (solid o.items) ≡ operator_words (slice_get def.operators n) + count ts = parts_weight parts in
         let m : operator_words (slice_get def.operators n) ≡ words_in (solid o.items) = ap operator_words found in
         omega (arith, k, m)
     tree_weight (in_brackets {ts = ts} phylum t u found bracketed opens closes y) =
@@ -211,7 +213,8 @@ module _ (def : Definition) where
 
   spans_count : (ts : List Spanned) → count_by counts ts ≡ count (tokens_of ts)
   spans_count [] = refl
-  spans_count (t ∷ ts) = ap (λ n. cond (is_counted t.token) 1 0 + n) (spans_count ts)
+  spans_count (t ∷ ts) =
+      sum_by-cons (λ (s : Spanned). cond (counts s) 1 0) t ts ∙ ap (λ n. cond (is_counted t.token) 1 0 + n) (spans_count ts)
 
   -- two lists of tokens that a tree yields have as many that are counted
   pub same_count : (f : Fragment) (kind : Kind) (level level' d e : ℕ) (ts us : List Spanned)
