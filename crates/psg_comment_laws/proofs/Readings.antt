@@ -256,4 +256,3 @@ module _ (fixed : List Name) where
   same_start all at s t b d =
       let e : a_token s b.rest ≡ a_token t d.rest = sym (begins_starts all at s b) ∙ begins_starts all at t d in
       ((cc), (cc))
-

@@ -290,12 +290,13 @@ module _ (fixed : List Name) (token : List ℕ) (fit : IsFit fixed token) where
       e ∙ ap (λ l. front ++ l) (ap encode_utf8_all (line_whole all) ∙ encodes-append line after) in
       let between : bytes_between text at (at + bytes_of line) ≡ encode_utf8_all line =
       ap (λ bs. bytes_between bs at (at + bytes_of line)) whole
-      ∙ between_seam front (encode_utf8_all line) (encode_utf8_all after) at n in
-      (subst (λ bs. IsSaid fixed token (trimmed bs)) (sym between) (said_of all s b),
-      notes_said after (at + bytes_of line) more k
-      (scalars_rest line after (subst (λ cs. all_scalars cs ≡ true) (line_whole all) s)) us (front ++ encode_utf8_all line) text
-      (whole ∙ sym (append_assoc front (encode_utf8_all line) (encode_utf8_all after)))
-      (omega (arith, n, length-append front (encode_utf8_all line))))
+      ∙ between_seam front (encode_utf8_all line) (encode_utf8_all after) at n in (
+        subst (λ bs. IsSaid fixed token (trimmed bs)) (sym between) (said_of all s b),
+        notes_said after (at + bytes_of line) more k
+            (scalars_rest line after (subst (λ cs. all_scalars cs ≡ true) (line_whole all) s)) us (front ++ encode_utf8_all line) text
+            (whole ∙ sym (append_assoc front (encode_utf8_all line) (encode_utf8_all after)))
+            (omega (arith, n, length-append front (encode_utf8_all line))),
+      )
   notes_said _ _ _ (token_there all own rest at t more b w i k) s us front text e n =
       notes_said rest (at + bytes_of own) more k
       (scalars_rest own rest (subst (λ cs. all_scalars cs ≡ true) w s)) us (front ++ encode_utf8_all own) text
@@ -339,9 +340,10 @@ pub notes_due : (fixed : List Name) (ts : Chars) (us : List Spanned) (text : Lis
 notes_due fixed ts us text _ _ _ (nothing at) low l = tt
 notes_due fixed ts us text _ _ _ (blank c cs at more h k) low l =
     notes_due fixed ts us text cs (at + 1) more k low (omega (arith, l))
-notes_due fixed ts us text _ _ _ (comment all at more b k) low l =
-    ((seen_grows us low at l, seen_within us at),
-    notes_due fixed ts us text (after_line all) (at + bytes_of (line_of all)) more k at (omega arith))
+notes_due fixed ts us text _ _ _ (comment all at more b k) low l = (
+  (seen_grows us low at l, seen_within us at),
+  notes_due fixed ts us text (after_line all) (at + bytes_of (line_of all)) more k at (omega arith),
+)
 notes_due fixed ts us text _ _ _ (token_there all own rest at t more b w i k) low l =
     notes_due fixed ts us text rest (at + bytes_of own) more k low (omega (arith, l))
 notes_due fixed ts us text _ _ _ (no_token all at place f b i) low l = tt

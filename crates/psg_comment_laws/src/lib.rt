@@ -3,6 +3,7 @@
 //! A text has its comments in one way. And where a text is printed again with its comments, the printed text has the
 //! same tokens as without them, and says the same comments in the same order, each after as many tokens.
 #![tactic(auto)]
+
 ghost use Rattle.psg_comment_laws.specs.Laws.{HasOneReading, KeepsAll, LosesNone};
 ghost use Rattle.psg_comment_laws.specs.Programs.{LosesNoneOfPrograms};
 ghost use Rattle.psg_comments.specs.Fitting.{IsFit};
