@@ -4,9 +4,8 @@ use Rattle.std.specs.Prelude.{chars, count_by, encode_utf8_all}
 use Rattle.std.specs.Str.{IsUtf8}
 use Rattle.std.proofs.lemmas.Str.{encodes-chars, scalars-chars}
 use Rattle.psg_terms.specs.Names.{Name}
-use Rattle.psg_lexis.specs.Tokens.{bytes_of, HasTokens}
+use Rattle.psg_lexis.specs.Classes.{Chars}
 use Rattle.psg_lexis.specs.declared.token.Spanned.{Spanned}
-use Rattle.psg_lexis.proofs.Laws.{only_tokens}
 use Rattle.psg_comments.specs.Fitting.{IsFit}
 use Rattle.psg_comments.specs.Blanking.{IsBlanked}
 use Rattle.psg_comments.specs.declared.finding.Comment.{Comment}
@@ -16,9 +15,9 @@ use Rattle.psg_commented.specs.Keeping.{token_of, Keeps, KeepsBy, DoesNotKeep, n
 use Rattle.psg_commented.specs.declared.noting.Note.{Note}
 use Rattle.psg_comment_laws.specs.Laws.{IsPrinting, AreSame, KeepsAll, LosesNone}
 use Rattle.psg_comment_laws.proofs.Once.{one_reading}
-use Rattle.psg_comment_laws.proofs.Pieces.{bytes_in, seen_by, pieces_keep}
+use Rattle.psg_comment_laws.proofs.Pieces.{bytes_in, seen_by, AreGood, pieces_keep}
 use Rattle.psg_comment_laws.proofs.Saying.{AreSaid, notes_said, AreDue, due_from, notes_due}
-use Rattle.psg_comment_laws.proofs.Parting.{Part, part_bytes, spans_of, counted, counted_is, IsParted, parted, parts_encoded}
+use Rattle.psg_comment_laws.proofs.Parting.{Part, part_bytes, spans_of, counted, counted_is, AreParts, IsParted, parted, parts_encoded}
 use Rattle.psg_comment_laws.proofs.Printed.{all_pieces, with_bytes, part_token, AreTold, all_told}
 use Rattle.psg_comment_laws.proofs.Good.{good_all}
 
@@ -36,28 +35,57 @@ due_up : (high more : ℕ) (ns : List Note) → high ≤ more → (low : ℕ) �
 due_up high more ns l low d = due_from low 0 more ns (omega arith) (due_higher low high more ns l d)
 
 module _ (fixed : List Name) (token : List ℕ) (fit : IsFit fixed token) where
+  -- the printed text with any comments is the bytes of pieces, and these comments are told by them
+  pub record IsMade (printed : List ℕ) (shown : List Spanned) (notes : List Note) : Type 0 where
+    pub parts : List Part
+    pub tail : Chars
+    pub parts_fit : AreParts fixed parts tail
+    pub spans : shown ≡ spans_of 0 parts
+    pub bytes : printed ≡ part_bytes parts tail
+    pub said : AreSaid fixed token fit notes
+    pub told : AreTold (all_pieces parts notes) 0 parts notes
+
+  pub made : (text printed : List ℕ) (ts shown : List Spanned) (comments : List Comment)
+      → IsPrinting fixed token text ts comments printed shown → IsMade printed shown (notes_of text ts comments)
+  made text printed ts shown comments p =
+      let notes : List Note = notes_of text ts comments in
+      let r : IsParted fixed [] (chars printed) 0 shown =
+      parted fixed (chars printed) 0 shown p.are (scalars-chars printed p.printed_utf8) [] 0 tt (omega arith) in
+      let sizes : count_by counts shown ≡ counted r.parts = ap (count_by counts) r.spans ∙ counted_is r.parts 0 in
+      let due : AreDue 0 (counted r.parts) notes =
+      due_up (count_by counts ts) (counted r.parts) notes (let l = p.enough in omega (arith, l, sizes))
+      (seen_by ts 0) (notes_due fixed (chars token) ts text (chars text) 0 comments p.found 0 (omega arith)) in
+      record {
+        parts = r.parts;
+        tail = r.tail;
+        parts_fit = r.good;
+        spans = r.spans;
+        bytes =
+            sym (encodes-chars printed p.printed_utf8) ∙ ap encode_utf8_all r.chars ∙ parts_encoded fixed r.parts r.tail r.good;
+        said =
+            notes_said fixed token fit (chars text) 0 comments p.found (scalars-chars text p.utf8) ts [] text
+            (sym (encodes-chars text p.utf8)) refl;
+        told = all_told r.parts (counted r.parts) notes due refl;
+      }
+
+  pub text_of_pieces : (printed : List ℕ) (shown : List Spanned) (notes : List Note) (m : IsMade printed shown notes)
+      (others : List Note) → with_notes printed shown others ≡ bytes_in (all_pieces m.parts others)
+  text_of_pieces printed shown notes m others =
+      ap (λ us. with_notes printed us others) m.spans ∙ with_bytes m.parts m.tail printed others m.bytes
+
+  pub good_of : (printed : List ℕ) (shown : List Spanned) (notes : List Note) (m : IsMade printed shown notes)
+      → AreGood fixed token (all_pieces m.parts notes)
+  good_of printed shown notes m = good_all fixed token fit m.parts m.tail m.parts_fit notes m.said
+
   keeps : (text printed : List ℕ) (ts shown : List Spanned) (comments : List Comment)
       → IsPrinting fixed token text ts comments printed shown
       → Keeps fixed token shown (notes_of text ts comments) (with_notes printed shown (notes_of text ts comments))
   keeps text printed ts shown comments p =
       let notes : List Note = notes_of text ts comments in
-      let r : IsParted fixed [] (chars printed) 0 shown =
-      parted fixed (chars printed) 0 shown p.are (scalars-chars printed p.printed_utf8) [] 0 tt (omega arith) in
-      let bytes : printed ≡ part_bytes r.parts r.tail =
-      sym (encodes-chars printed p.printed_utf8) ∙ ap encode_utf8_all r.chars ∙ parts_encoded fixed r.parts r.tail r.good in
-      let text_is : with_notes printed shown notes ≡ bytes_in (all_pieces r.parts notes) =
-      ap (λ us. with_notes printed us notes) r.spans ∙ with_bytes r.parts r.tail printed notes bytes in
-      let said : AreSaid fixed token fit notes =
-      notes_said fixed token fit (chars text) 0 comments p.found (scalars-chars text p.utf8) ts [] text
-      (sym (encodes-chars text p.utf8)) refl in
-      let sizes : count_by counts shown ≡ counted r.parts = ap (count_by counts) r.spans ∙ counted_is r.parts 0 in
-      let due : AreDue 0 (counted r.parts) notes =
-      due_up (count_by counts ts) (counted r.parts) notes (let l = p.enough in omega (arith, l, sizes))
-      (seen_by ts 0) (notes_due fixed (chars token) ts text (chars text) 0 comments p.found 0 (omega arith)) in
-      let told : AreTold (all_pieces r.parts notes) 0 r.parts notes = all_told r.parts (counted r.parts) notes due refl in
-      subst (Keeps fixed token shown notes) (sym text_is)
-      (pieces_keep fixed token fit (all_pieces r.parts notes) (good_all fixed token fit r.parts r.tail r.good notes said) shown notes
-      (told.tokens ∙ span_tokens r.parts 0 ∙ ap (map token_of) (sym r.spans)) told.places told.says)
+      let m : IsMade printed shown notes = made text printed ts shown comments p in
+      subst (Keeps fixed token shown notes) (sym (text_of_pieces printed shown notes m notes))
+      (pieces_keep fixed token fit (all_pieces m.parts notes) (good_of printed shown notes m) shown notes
+      (m.told.tokens ∙ span_tokens m.parts 0 ∙ ap (map token_of) (sym m.spans)) m.told.places m.told.says)
 
   pub keeps_all : KeepsAll fixed token
   keeps_all text printed ts shown comments p = record {

@@ -8,3 +8,5 @@ pub mod Good
 pub mod Kept
 pub mod Weights
 pub mod OfPrograms
+pub mod Trails
+pub mod Again

@@ -21,7 +21,7 @@ use Rattle.psg_comments.specs.Blanking.{is_inside, AreSpaces, IsBlanked}
 use Rattle.psg_comments.specs.Finding.{line_of, after_line, HasComments, nothing, blank, comment, token_there}
 use Rattle.psg_comments.specs.declared.finding.Comment.{Comment}
 use Rattle.psg_comments.proofs.Meetings.{no_comment_at_token}
-use Rattle.psg_commented.specs.Noting.{counts, is_counted, ends_by, ended_by, bytes_between, trimmed, note_of, notes_of}
+use Rattle.psg_commented.specs.Noting.{has_feed, counts, is_counted, ends_by, ended_by, bytes_between, trimmed, note_of, notes_of}
 use Rattle.psg_commented.specs.Keeping.{token_of, place_of, words_of, AreKept, Keeps, KeepsBy}
 use Rattle.psg_commented.specs.declared.noting.Note.{Note}
 use Rattle.psg_comment_laws.proofs.Once.{from_to}
@@ -144,6 +144,7 @@ module _ (fixed : List Name) (token : List ℕ) where
     pub line : (rest : Chars) → line_of (chars b ++ 10 ∷ rest) ≡ chars b
     pub after : (rest : Chars) → after_line (chars b ++ 10 ∷ rest) ≡ 10 ∷ rest
     pub no_blanks : trimmed b ≡ b
+    pub no_feed : has_feed b ≡ false
 
   abbrev pub BeginsFeed : Chars → Type 0
   BeginsFeed cs = (rest : Chars) × (cs ≡ 10 ∷ rest)
@@ -421,7 +422,7 @@ are_said fixed token (a_comment b ∷ ps) g front text at own e n =
 abbrev pub seen_by : List Spanned → ℕ → ℕ
 seen_by us place = count_by counts (take (ended_by us place) us)
 
-none_ended : (ps : List Piece) (at place : ℕ) → place < at → ended_by (own_in at ps) place ≡ 0
+pub none_ended : (ps : List Piece) (at place : ℕ) → place < at → ended_by (own_in at ps) place ≡ 0
 none_ended [] at place l = refl
 none_ended (a_blank c ∷ ps) at place l = none_ended ps (at + 1) place (omega (arith, l))
 none_ended (a_token cs t ∷ ps) at place l =
@@ -470,34 +471,41 @@ own_tokens (a_comment b ∷ ps) at = own_tokens ps (at + length b)
 
 -- ---- a text of such pieces keeps its comments
 
+pub own_seen : (ps : List Piece) (place : ℕ) → 0 ≤ place → seen_by (own_in 0 ps) place ≡ 0 + seen_by (own_in 0 ps) place
+own_seen ps place l = omega arith
+
 module _ (fixed : List Name) (token : List ℕ) (fit : IsFit fixed token) where
+  pub pieces_blanked : (ps : List Piece) → AreGood fixed token ps
+      → IsBlanked fixed token (bytes_in ps) (comments_in 0 ps) (blank_bytes ps)
+  pieces_blanked ps g = record {
+    found =
+        subst (λ cs. HasComments fixed (chars token) cs 0 (comments_in 0 ps))
+        (sym (chars_of fixed (chars_in ps) (bytes_in ps) (are_encoded fixed token ps g))) (has_comments fixed token fit ps g 0);
+    spaces = are_spaces ps;
+  }
+
+  pub pieces_tokens : (ps : List Piece) → AreGood fixed token ps
+      → HasTokens fixed (chars (blank_bytes ps)) 0 (own_in 0 ps)
+  pieces_tokens ps g =
+      subst (λ cs. HasTokens fixed cs 0 (own_in 0 ps))
+      (sym (chars_of fixed (blank_chars ps) (blank_bytes ps) (blank_encoded fixed token ps g))) (has_tokens fixed token ps g 0)
+
   pub pieces_keep : (ps : List Piece) → AreGood fixed token ps → (shown : List Spanned) (notes : List Note)
       → tokens_in ps ≡ map token_of shown → places_in 0 ps ≡ map place_of notes → says_in ps ≡ map words_of notes
       → Keeps fixed token shown notes (bytes_in ps)
-  pieces_keep ps g shown notes tokens places words =
-      let own = are_encoded fixed token ps g in
-      let bare = blank_encoded fixed token ps g in
-      let zero_at : (place : ℕ) → 0 ≤ place → seen_by (own_in 0 ps) place ≡ 0 + seen_by (own_in 0 ps) place = λ place l. omega arith in
-      record {
-        utf8 = utf8_of fixed (chars_in ps) (bytes_in ps) own;
-        comments = comments_in 0 ps;
-        blanked = blank_bytes ps;
-        found = record {
-          found =
-              subst (λ cs. HasComments fixed (chars token) cs 0 (comments_in 0 ps)) (sym (chars_of fixed (chars_in ps) (bytes_in ps) own))
-              (has_comments fixed token fit ps g 0);
-          spaces = are_spaces ps;
-        };
-        by = record {
-          utf8 = utf8_of fixed (blank_chars ps) (blank_bytes ps) bare;
-          own = own_in 0 ps;
-          are =
-              subst (λ cs. HasTokens fixed cs 0 (own_in 0 ps)) (sym (chars_of fixed (blank_chars ps) (blank_bytes ps) bare))
-              (has_tokens fixed token ps g 0);
-          same = own_tokens ps 0 ∙ tokens;
-          kept = record {
-            places = are_placed fixed token ps g (bytes_in ps) 0 0 (own_in 0 ps) zero_at ∙ places;
-            words = are_said fixed token ps g [] (bytes_in ps) 0 (own_in 0 ps) refl refl ∙ words;
-          };
-        };
-      }
+  pieces_keep ps g shown notes tokens places words = record {
+    utf8 = utf8_of fixed (chars_in ps) (bytes_in ps) (are_encoded fixed token ps g);
+    comments = comments_in 0 ps;
+    blanked = blank_bytes ps;
+    found = pieces_blanked ps g;
+    by = record {
+      utf8 = utf8_of fixed (blank_chars ps) (blank_bytes ps) (blank_encoded fixed token ps g);
+      own = own_in 0 ps;
+      are = pieces_tokens ps g;
+      same = own_tokens ps 0 ∙ tokens;
+      kept = record {
+        places = are_placed fixed token ps g (bytes_in ps) 0 0 (own_in 0 ps) (own_seen ps) ∙ places;
+        words = are_said fixed token ps g [] (bytes_in ps) 0 (own_in 0 ps) refl refl ∙ words;
+      };
+    };
+  }

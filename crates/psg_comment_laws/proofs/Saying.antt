@@ -1,6 +1,6 @@
 -- What the comments of a text say, and that they are in order beside its tokens.
-use Rattle.std.proofs.Common.{◌≡◌, ◌⊎◌, inl, inr, ℕ, zero, suc, ◌+◌, ◌-◌, ◌<◌, ◌≤◌, ◌==◌, Bool, true, false, cond, List, [], ◌∷◌, ◌++◌, length, take, drop, get_or, sym, ap, ◌∙◌, subst, refl, append_assoc, arith, length-append}
-use Rattle.std.specs.Prelude.{chars, codes, encode_utf8_all, count_by, not, reverse, ◌&&◌, ◌||◌, IsUtf8}
+use Rattle.std.proofs.Common.{◌≡◌, ◌⊎◌, inl, inr, ℕ, zero, suc, ◌+◌, ◌-◌, ◌<◌, ◌≤◌, ◌==◌, Bool, true, false, cond, List, [], ◌∷◌, ◌++◌, length, take, drop, get_or, sym, ap, ◌∙◌, subst, refl, append_assoc, append-nil, arith, length-append}
+use Rattle.std.specs.Prelude.{chars, codes, encode_utf8, encode_utf8_all, count_by, not, reverse, ◌&&◌, ◌||◌, IsUtf8}
 use Rattle.std.specs.Char.{is_ascii_whitespace}
 use Rattle.std.specs.List.{AllByRecursion, list_any, list_all, prefix_len, suffix_len}
 use Rattle.std.specs.Str.{all_scalars, IsAscii, IsCharBoundary}
@@ -9,7 +9,8 @@ use Rattle.std.proofs.lemmas.Bool.{and_parts, eqb-true, false≢true, true≢fal
 use Rattle.std.proofs.lemmas.Bool.Decides.{nat_tests}
 use Rattle.std.proofs.lemmas.List.{take_all, take-append-drop, length-take-le, length-reverse, get_or-drop, get_or-take, get_or_past, get_or_push, get_or-reverse, nil_from_length}
 use Rattle.std.proofs.lemmas.List.Sums.{prefix_len_passes, prefix_len_stops, suffix_len-take_no}
-use Rattle.std.proofs.lemmas.Str.{encodes-append, encodes-chars, chars-append, chars-encodes, chars-IsAscii, chars-nil, encode_ascii, IsUtf8-take, IsCharBoundary-before_ascii, IsCharBoundary-end}
+use Rattle.std.proofs.lemmas.List.Folds.{list_any-append}
+use Rattle.std.proofs.lemmas.Str.{inside_one, encodes-append, encodes-chars, chars-append, chars-encodes, chars-IsAscii, chars-nil, encode_ascii, IsUtf8-take, IsCharBoundary-before_ascii, IsCharBoundary-end}
 use lib.Utf8.{scalar}
 use Rattle.psg_terms.specs.Names.{Name}
 use Rattle.psg_lexis.specs.Classes.{Chars, is_blank, is_symbol, EndsBy}
@@ -21,7 +22,7 @@ use Rattle.psg_comments.specs.Finding.{is_end, line_of, after_line, HasComments,
 use Rattle.psg_comments.specs.declared.finding.Comment.{Comment}
 use Rattle.psg_comments.proofs.Cuts.{line_whole}
 use Rattle.psg_comments.proofs.Fronts.{untrue, begins_head, begins_run}
-use Rattle.psg_commented.specs.Noting.{counts, ended_by, bytes_between, trimmed, note_of, notes_of}
+use Rattle.psg_commented.specs.Noting.{has_feed, is_feed, counts, ended_by, bytes_between, trimmed, note_of, notes_of}
 use Rattle.psg_commented.specs.declared.noting.Note.{Note}
 use Rattle.psg_commented.proofs.Counts.{ended_more, counted_more}
 use Rattle.psg_comment_laws.proofs.Pieces.{IsSaid, between_seam, seen_by}
@@ -126,6 +127,36 @@ scalars_front (x ∷ xs) ys h =
 pub scalars_rest : (xs ys : Chars) → all_scalars (xs ++ ys) ≡ true → all_scalars ys ≡ true
 scalars_rest [] ys h = h
 scalars_rest (x ∷ xs) ys h = scalars_rest xs ys (and_parts (scalar x) (all_scalars (xs ++ ys)) h).1
+
+-- a text of such characters has no line feed
+feed_at : (xs : List ℕ) → has_feed xs ≡ true → (k : ℕ) × (k < length xs) × (get_or xs k 0 ≡ 10)
+feed_at [] h = absurd (false≢true h)
+feed_at (x ∷ xs) h = by (x == 10) refl (λ k. feed_at xs k)
+  where
+    by : (b : Bool) → (x == 10) ≡ b
+        → (has_feed xs ≡ true → (k : ℕ) × (k < length xs) × (get_or xs k 0 ≡ 10))
+        → (k : ℕ) × (k < length (x ∷ xs)) × (get_or (x ∷ xs) k 0 ≡ 10)
+    by true e later = (0, omega arith, eqb-true x 10 e)
+    by false e later =
+        let l = later (sym (ap (λ b. b || has_feed xs) e) ∙ h) in
+        let m = l.1 in
+        (suc l.0, omega (arith, m), l.2)
+
+char_feedless : (c : ℕ) → (c == 10) ≡ false → has_feed (encode_utf8 c) ≡ false
+char_feedless c e = untrue _ (λ h.
+    let l = feed_at (encode_utf8 c) h in
+    let k : ℕ = l.0 in
+    let is = l.2 in
+    let small : get_or (encode_utf8 c) k 0 < 128 = omega (arith, is) in
+    let same : c ≡ get_or (encode_utf8 c) k 0 = inside_one c [] (encode_utf8 c) k (sym (append-nil (encode_utf8 c))) l.1 small in
+    let ten : c ≡ 10 = same ∙ is in
+    true≢false (sym (ap (λ d. d == 10) ten) ∙ e))
+
+feedless : (cs : Chars) → AllByRecursion IsOther cs → has_feed (encode_utf8_all cs) ≡ false
+feedless [] a = refl
+feedless (c ∷ cs) a =
+    list_any-append is_feed (encode_utf8 c) (encode_utf8_all cs)
+    ∙ ap (λ b. b || has_feed (encode_utf8_all cs)) (char_feedless c a.0) ∙ feedless cs a.1
 
 -- ---- blanks at the end
 
@@ -268,6 +299,8 @@ module _ (fixed : List Name) (token : List ℕ) (fit : IsFit fixed token) where
         line = λ rest. (line_stops (chars (kept b u)) others (kept_no_return b u) rest).0;
         after = λ rest. (line_stops (chars (kept b u)) others (kept_no_return b u) rest).1;
         no_blanks = kept_again b u;
+        no_feed =
+            ap has_feed (sym (encodes-chars (kept b u) (kept_utf8 b u))) ∙ feedless (chars (kept b u)) others;
       }
 
   abbrev pub AreSaid : List Note → Type 0

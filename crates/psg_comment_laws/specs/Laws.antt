@@ -45,3 +45,11 @@ module _ (fixed : List Name) (token : List ℕ) where
   LosesNone = (text printed : List ℕ) (ts shown : List Spanned) (comments : List Comment)
       → IsPrinting fixed token text ts comments printed shown
       → IsLost fixed token printed (notes_of text ts comments) → ⊥
+
+  -- what was printed with comments is printed with its own comments as it is
+  abbrev pub PrintsOnce : Type 0
+  PrintsOnce = (text printed : List ℕ) (ts shown : List Spanned) (comments : List Comment)
+      → IsPrinting fixed token text ts comments printed shown → (new : List ℕ)
+      → new ≡ with_notes printed shown (notes_of text ts comments)
+      → (own : List Spanned) (others : List Comment) (bytes : List ℕ) → IsBlanked fixed token new others bytes
+      → HasTokens fixed (chars bytes) 0 own → with_notes printed shown (notes_of new own others) ≡ new

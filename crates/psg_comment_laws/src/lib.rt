@@ -4,7 +4,7 @@
 //! same tokens as without them, and says the same comments in the same order, each after as many tokens.
 #![tactic(auto)]
 
-ghost use Rattle.psg_comment_laws.specs.Laws.{HasOneReading, KeepsAll, LosesNone};
+ghost use Rattle.psg_comment_laws.specs.Laws.{HasOneReading, KeepsAll, LosesNone, PrintsOnce};
 ghost use Rattle.psg_comment_laws.specs.Programs.{LosesNoneOfPrograms};
 ghost use Rattle.psg_comments.specs.Fitting.{IsFit};
 ghost use Rattle.psg_grammar.specs.WellFormed.{fixed_words};
@@ -32,6 +32,13 @@ pub fn keeps_all(words: &[Txt], token: &str)
 pub fn loses_none(words: &[Txt], token: &str)
     requires fit { IsFit words.now token.now }
     ensures { LosesNone words.now token.now }
+{}
+
+/// States that what was printed with comments stays as it is where it is printed again: with its own comments, beside
+/// the same printed text, it is the same text. The call has no cost.
+pub fn prints_once(words: &[Txt], token: &str)
+    requires fit { IsFit words.now token.now }
+    ensures { PrintsOnce words.now token.now }
 {}
 
 /// States that no printed text of a program loses the program's comments, where it reads as the same tree as the text
