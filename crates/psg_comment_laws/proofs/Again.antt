@@ -1,5 +1,5 @@
 -- What was printed with comments is printed with its own comments as it is.
-use Rattle.std.proofs.Common.{◌≡◌, ℕ, suc, ◌+◌, ◌==◌, Bool, true, false, cond, List, [], ◌∷◌, ◌++◌, length, take, drop, map, replicate, sym, ap, ◌∙◌, subst, refl, append_assoc, append-nil, arith}
+use Rattle.std.proofs.Common.{◌≡◌, ℕ, suc, ◌+◌, ◌==◌, Bool, true, false, cond, List, [], ◌∷◌, ◌++◌, length, take, drop, map, replicate, sym, ap, ◌∙◌, subst, refl, append_assoc, arith}
 use Rattle.std.specs.Prelude.{chars, nat_le, not, ◌&&◌}
 use Rattle.std.specs.List.{prefix_len}
 use Rattle.std.proofs.lemmas.List.{take_at, drop_at, take-map, drop-map, length-map, length-take-le}
@@ -17,7 +17,7 @@ use Rattle.psg_commented.specs.Noting.{is_counted, notes_of}
 use Rattle.psg_commented.specs.Printing.{closes, is_due, due, level_after, comment_level, token_level, with_notes}
 use Rattle.psg_commented.specs.Keeping.{place_of, words_of}
 use Rattle.psg_commented.specs.declared.noting.Note.{Note}
-use Rattle.psg_comment_laws.specs.Laws.{IsPrinting, AreSame, PrintsOnce}
+use Rattle.psg_comment_laws.specs.Laws.{AreSame, PrintsOnce}
 use Rattle.psg_comment_laws.proofs.Once.{one_reading}
 use Rattle.psg_comment_laws.proofs.Pieces.{Piece, a_blank, a_token, a_comment, bytes_in, blank_bytes, comments_in, own_in, are_said, are_placed, own_seen, pieces_blanked, pieces_tokens}
 use Rattle.psg_comment_laws.proofs.Parting.{Part}

@@ -1,21 +1,20 @@
 -- The pieces of a printed text with comments make a text: each token is one beside what follows it there.
-use Rattle.std.proofs.Common.{◌≡◌, ℕ, zero, suc, ◌+◌, ◌<◌, Bool, true, false, cond, List, [], ◌∷◌, ◌++◌, length, take, drop, map, replicate, sym, ap, ◌∙◌, subst, refl, append_assoc, arith}
+use Rattle.std.proofs.Common.{◌≡◌, ℕ, zero, suc, ◌+◌, Bool, true, false, cond, List, [], ◌∷◌, ◌++◌, take, drop, map, replicate, sym, subst, refl, append_assoc}
 use Rattle.std.proofs.lemmas.Bool.{false≢true}
-use Rattle.std.specs.Prelude.{IsTrue}
-use Rattle.std.specs.List.{AllByRecursion, prefix_len}
+use Rattle.std.specs.List.{prefix_len}
 use Rattle.unicode_ident.proofs.Computing.{unicode_ident}
 use Rattle.psg_terms.specs.Names.{Name}
 use Rattle.psg_terms.specs.Words.{goes_on_word, IsWord}
-use Rattle.psg_lexis.specs.Classes.{Chars, is_blank, is_digit, is_symbol, EndsBy, BeginsBy}
+use Rattle.psg_lexis.specs.Classes.{Chars, is_digit, is_symbol, EndsBy, BeginsBy}
 use Rattle.psg_lexis.specs.Tokens.{IsToken, word, number, text, solo, symbol, hole, more}
 use Rattle.psg_lexis.specs.declared.token.Token.{Token}
 use Rattle.psg_comments.specs.Fitting.{IsFit}
 use Rattle.psg_commented.specs.Noting.{is_counted}
 use Rattle.psg_commented.specs.Printing.{is_due, due, level_after, comment_level, token_level}
 use Rattle.psg_commented.specs.declared.noting.Note.{Note}
-use Rattle.psg_comment_laws.proofs.Pieces.{Piece, a_blank, a_token, a_comment, chars_in, blank_chars, IsSaid, BeginsFeed, IsThere, AreGood}
+use Rattle.psg_comment_laws.proofs.Pieces.{Piece, a_blank, a_token, a_comment, chars_in, blank_chars, BeginsFeed, IsThere, AreGood}
 use Rattle.psg_comment_laws.proofs.Saying.{AreSaid}
-use Rattle.psg_comment_laws.proofs.Parting.{Part, part_chars, AreBlank, IsPart, AreParts}
+use Rattle.psg_comment_laws.proofs.Parting.{Part, part_chars, AreBlank, AreParts}
 use Rattle.psg_comment_laws.proofs.Printed.{line_pieces, lead_pieces, lines_pieces, behind_pieces, gap_pieces, pieces, head_pieces, all_pieces}
 
 -- ---- what follows a token

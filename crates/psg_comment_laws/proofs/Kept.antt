@@ -1,17 +1,15 @@
 -- A printed text keeps the comments that are put into it.
-use Rattle.std.proofs.Common.{◌≡◌, ℕ, ◌+◌, ◌≤◌, List, [], ◌∷◌, ◌++◌, map, sym, ap, ◌∙◌, subst, refl, arith}
+use Rattle.std.proofs.Common.{◌≡◌, ℕ, ◌≤◌, List, [], ◌∷◌, map, sym, ap, ◌∙◌, subst, refl, arith}
 use Rattle.std.specs.Prelude.{chars, count_by, encode_utf8_all}
-use Rattle.std.specs.Str.{IsUtf8}
 use Rattle.std.proofs.lemmas.Str.{encodes-chars, scalars-chars}
 use Rattle.psg_terms.specs.Names.{Name}
 use Rattle.psg_lexis.specs.Classes.{Chars}
 use Rattle.psg_lexis.specs.declared.token.Spanned.{Spanned}
 use Rattle.psg_comments.specs.Fitting.{IsFit}
-use Rattle.psg_comments.specs.Blanking.{IsBlanked}
 use Rattle.psg_comments.specs.declared.finding.Comment.{Comment}
 use Rattle.psg_commented.specs.Noting.{counts, notes_of}
 use Rattle.psg_commented.specs.Printing.{with_notes}
-use Rattle.psg_commented.specs.Keeping.{token_of, Keeps, KeepsBy, DoesNotKeep, no_text, other_text, IsCommented, IsLost}
+use Rattle.psg_commented.specs.Keeping.{token_of, Keeps, KeepsBy, DoesNotKeep, no_text, other_text}
 use Rattle.psg_commented.specs.declared.noting.Note.{Note}
 use Rattle.psg_comment_laws.specs.Laws.{IsPrinting, AreSame, KeepsAll, LosesNone}
 use Rattle.psg_comment_laws.proofs.Once.{one_reading}

@@ -1,7 +1,6 @@
 -- The printed text of a program has as many tokens that are counted, so it keeps the program's comments.
-use Rattle.std.proofs.Common.{◌≡◌, ℕ, ◌≤◌, List, sym, ap, ◌∙◌, subst, refl, arith}
+use Rattle.std.proofs.Common.{◌≡◌, ℕ, List, subst, arith}
 use Rattle.std.specs.Prelude.{chars, count_by}
-use Rattle.psg_lexis.specs.declared.token.Spanned.{Spanned}
 use Rattle.psg_lexis.proofs.Laws.{only_tokens}
 use Rattle.psg_grammar.specs.declared.types.Definition.{Definition}
 use Rattle.psg_grammar.specs.WellFormed.{fixed_words}
@@ -9,7 +8,7 @@ use Rattle.psg_class.specs.Texts.{tokens_of}
 use Rattle.psg_class.specs.Yields.{Yields}
 use Rattle.psg_comments.specs.Fitting.{IsFit}
 use Rattle.psg_commented.specs.Noting.{counts}
-use Rattle.psg_comment_laws.specs.Programs.{PrintsProgram, LosesNoneOfPrograms}
+use Rattle.psg_comment_laws.specs.Programs.{LosesNoneOfPrograms}
 use Rattle.psg_comment_laws.proofs.Kept.{loses_none}
 use Rattle.psg_comment_laws.proofs.Weights.{same_count}
 

@@ -1,23 +1,21 @@
 -- A text has its comments in one way, and one text has spaces for them.
-use Rattle.std.proofs.Common.{◌≡◌, ℕ, ◌+◌, ◌<◌, Bool, true, false, List, [], ◌∷◌, ◌++◌, length, get_or, sym, ap, ◌∙◌, subst, refl, arith}
+use Rattle.std.proofs.Common.{◌≡◌, ℕ, ◌+◌, ◌<◌, Bool, true, false, List, [], ◌∷◌, ◌++◌, length, get_or, sym, ap, ◌∙◌, subst, refl}
 use Rattle.std.specs.Prelude.{chars}
 use Rattle.std.proofs.lemmas.Bool.{false≢true, true≢false}
 use Rattle.std.proofs.lemmas.Grind.{same_number_lists}
 use Rattle.psg_terms.specs.Names.{Name}
-use Rattle.psg_lexis.specs.Classes.{Chars, is_blank, is_symbol}
+use Rattle.psg_lexis.specs.Classes.{Chars, is_blank}
 use Rattle.psg_lexis.specs.Tokens.{bytes_of, IsToken, Begins}
-use Rattle.psg_lexis.specs.Faults.{IsFault}
 use Rattle.psg_lexis.specs.declared.token.Token.{Token}
 use Rattle.psg_lexis.specs.declared.token.Spanned.{Spanned}
-use Rattle.psg_lexis.specs.declared.token.LexFault.{LexFault}
 use Rattle.psg_lexis.proofs.Disjoint.{blank_apart}
 use Rattle.psg_comments.specs.Fitting.{begins_with, IsFit}
-use Rattle.psg_comments.specs.Blanking.{is_inside, AreSpaces, IsBlanked}
+use Rattle.psg_comments.specs.Blanking.{is_inside, AreSpaces}
 use Rattle.psg_comments.specs.Finding.{line_of, HasComments, nothing, blank, comment, token_there, no_token}
 use Rattle.psg_comments.specs.declared.finding.Comment.{Comment}
 use Rattle.psg_comments.proofs.Fronts.{begins_head}
-use Rattle.psg_comment_laws.specs.Laws.{AreSame, HasOneReading}
-use Rattle.psg_comment_laws.proofs.Readings.{blank_token, blank_fault, token_fault, no_token_at_end, no_fault_at_end, same_start}
+use Rattle.psg_comment_laws.specs.Laws.{HasOneReading}
+use Rattle.psg_comment_laws.proofs.Readings.{blank_token, blank_fault, token_fault, no_token_at_end, same_start}
 
 -- the comment of so many bytes
 abbrev pub from_to : ℕ → ℕ → Comment

@@ -1,7 +1,6 @@
 -- A text that is made of blanks, tokens and comments has these tokens and these comments.
 use Rattle.std.proofs.Common.{◌≡◌, ◌⊎◌, inl, inr, ℕ, zero, suc, ◌+◌, ◌-◌, ◌<◌, ◌≤◌, ◌==◌, Bool, true, false, cond, List, [], ◌∷◌, ◌++◌, length, take, drop, get_or, map, replicate, sym, ap, ◌∙◌, subst, refl, append_assoc, arith, length-append}
 use Rattle.std.specs.Prelude.{chars, encode_utf8_all, count_by, nat_le, nat_lt, ◌&&◌, ◌||◌, IsTrue, IsUtf8}
-use Rattle.std.specs.List.{prefix_len}
 use Rattle.std.specs.Str.{all_scalars}
 use Rattle.std.proofs.Math.Seq.{drop-append_seam}
 use Rattle.std.proofs.lemmas.Bool.{and_parts, eqb-true, false≢true, true≢false, cases_lt, lt-ltb, le-leb, le-ltb, lt-leb}
@@ -21,8 +20,8 @@ use Rattle.psg_comments.specs.Blanking.{is_inside, AreSpaces, IsBlanked}
 use Rattle.psg_comments.specs.Finding.{line_of, after_line, HasComments, nothing, blank, comment, token_there}
 use Rattle.psg_comments.specs.declared.finding.Comment.{Comment}
 use Rattle.psg_comments.proofs.Meetings.{no_comment_at_token}
-use Rattle.psg_commented.specs.Noting.{has_feed, counts, is_counted, ends_by, ended_by, bytes_between, trimmed, note_of, notes_of}
-use Rattle.psg_commented.specs.Keeping.{token_of, place_of, words_of, AreKept, Keeps, KeepsBy}
+use Rattle.psg_commented.specs.Noting.{has_feed, counts, is_counted, ended_by, bytes_between, trimmed, notes_of}
+use Rattle.psg_commented.specs.Keeping.{token_of, place_of, words_of, Keeps}
 use Rattle.psg_commented.specs.declared.noting.Note.{Note}
 use Rattle.psg_comment_laws.proofs.Once.{from_to}
 

@@ -1,24 +1,20 @@
 -- The printed text with comments is made of blanks, tokens and comments.
-use Rattle.std.proofs.Common.{◌≡◌, ℕ, zero, suc, ◌+◌, ◌≤◌, ◌<◌, ◌==◌, Bool, true, false, cond, List, [], ◌∷◌, ◌++◌, length, take, drop, map, replicate, sym, ap, ◌∙◌, subst, refl, append_assoc, append-nil, arith, length-append}
-use Rattle.std.specs.Prelude.{encode_utf8_all, nat_le, max, not, ◌||◌, IsTrue}
-use Rattle.std.specs.List.{AllByRecursion, prefix_len}
-use Rattle.std.proofs.lemmas.Bool.{cases_Bool, false≢true, true≢false}
+use Rattle.std.proofs.Common.{◌≡◌, ℕ, suc, ◌+◌, ◌≤◌, ◌==◌, Bool, true, false, cond, List, [], ◌∷◌, ◌++◌, length, take, drop, map, replicate, sym, ap, ◌∙◌, subst, refl, append_assoc, append-nil, arith, length-append}
+use Rattle.std.specs.Prelude.{encode_utf8_all, nat_le, not, ◌||◌}
+use Rattle.std.specs.List.{prefix_len}
+use Rattle.std.proofs.lemmas.Bool.{false≢true}
 use Rattle.std.proofs.lemmas.Bool.Decides.{nat_tests}
 use Rattle.std.proofs.lemmas.List.{map-append, take-append-drop}
-use Rattle.psg_terms.specs.Names.{Name}
-use Rattle.psg_lexis.specs.Classes.{Chars, is_blank, is_digit, is_symbol, EndsBy, BeginsBy}
 use Rattle.psg_lexis.specs.Tokens.{bytes_of}
 use Rattle.psg_lexis.specs.declared.token.Token.{Token}
 use Rattle.psg_lexis.specs.declared.token.Token.TheVariants as lexed
-use Rattle.psg_lexis.specs.declared.token.Spanned.{Spanned}
-use Rattle.psg_comments.specs.Fitting.{IsFit}
 use Rattle.psg_commented.specs.Noting.{bytes_between, is_counted}
-use Rattle.psg_commented.specs.Printing.{closes, is_due, due, level_after, comment_level, token_level, new_line, own_line, on_lines, lead, behind_token, gap_with, head_line, heads, token_with, printed_from, with_notes}
+use Rattle.psg_commented.specs.Printing.{closes, is_due, due, level_after, comment_level, token_level, new_line, on_lines, lead, behind_token, gap_with, heads, printed_from, with_notes}
 use Rattle.psg_commented.specs.Keeping.{place_of, words_of}
 use Rattle.psg_commented.specs.declared.noting.Note.{Note}
-use Rattle.psg_comment_laws.proofs.Pieces.{Piece, a_blank, a_token, a_comment, chars_in, bytes_in, blank_chars, tokens_in, says_in, places_in, IsSaid, BeginsFeed, IsThere, AreGood, between_seam}
-use Rattle.psg_comment_laws.proofs.Saying.{AreSaid, AreDue, due_from}
-use Rattle.psg_comment_laws.proofs.Parting.{Part, part_chars, part_bytes, part_span, spans_of, counted, AreBlank, IsPart, AreParts}
+use Rattle.psg_comment_laws.proofs.Pieces.{Piece, a_blank, a_token, a_comment, bytes_in, tokens_in, says_in, places_in, between_seam}
+use Rattle.psg_comment_laws.proofs.Saying.{AreDue, due_from}
+use Rattle.psg_comment_laws.proofs.Parting.{Part, part_bytes, spans_of, counted}
 
 -- ---- the pieces
 

@@ -1,5 +1,5 @@
 -- What the comments of a text say, and that they are in order beside its tokens.
-use Rattle.std.proofs.Common.{◌≡◌, ◌⊎◌, inl, inr, ℕ, zero, suc, ◌+◌, ◌-◌, ◌<◌, ◌≤◌, ◌==◌, Bool, true, false, cond, List, [], ◌∷◌, ◌++◌, length, take, drop, get_or, sym, ap, ◌∙◌, subst, refl, append_assoc, append-nil, arith, length-append}
+use Rattle.std.proofs.Common.{◌≡◌, inl, inr, ℕ, suc, ◌+◌, ◌-◌, ◌<◌, ◌≤◌, ◌==◌, Bool, true, false, cond, List, [], ◌∷◌, ◌++◌, length, take, drop, get_or, sym, ap, ◌∙◌, subst, refl, append_assoc, append-nil, arith, length-append}
 use Rattle.std.specs.Prelude.{chars, codes, encode_utf8, encode_utf8_all, count_by, not, reverse, ◌&&◌, ◌||◌, IsUtf8}
 use Rattle.std.specs.Char.{is_ascii_whitespace}
 use Rattle.std.specs.List.{AllByRecursion, list_any, list_all, prefix_len, suffix_len}
@@ -13,7 +13,7 @@ use Rattle.std.proofs.lemmas.List.Folds.{list_any-append}
 use Rattle.std.proofs.lemmas.Str.{inside_one, encodes-append, encodes-chars, chars-append, chars-encodes, chars-IsAscii, chars-nil, encode_ascii, IsUtf8-take, IsCharBoundary-before_ascii, IsCharBoundary-end}
 use lib.Utf8.{scalar}
 use Rattle.psg_terms.specs.Names.{Name}
-use Rattle.psg_lexis.specs.Classes.{Chars, is_blank, is_symbol, EndsBy}
+use Rattle.psg_lexis.specs.Classes.{Chars, is_symbol, EndsBy}
 use Rattle.psg_lexis.specs.Tokens.{bytes_of}
 use Rattle.psg_lexis.specs.declared.token.Spanned.{Spanned}
 use Rattle.psg_lexis.proofs.Walk.{blank-small}
@@ -22,7 +22,7 @@ use Rattle.psg_comments.specs.Finding.{is_end, line_of, after_line, HasComments,
 use Rattle.psg_comments.specs.declared.finding.Comment.{Comment}
 use Rattle.psg_comments.proofs.Cuts.{line_whole}
 use Rattle.psg_comments.proofs.Fronts.{untrue, begins_head, begins_run}
-use Rattle.psg_commented.specs.Noting.{has_feed, is_feed, counts, ended_by, bytes_between, trimmed, note_of, notes_of}
+use Rattle.psg_commented.specs.Noting.{has_feed, is_feed, counts, ended_by, bytes_between, trimmed, notes_of}
 use Rattle.psg_commented.specs.declared.noting.Note.{Note}
 use Rattle.psg_commented.proofs.Counts.{ended_more, counted_more}
 use Rattle.psg_comment_laws.proofs.Pieces.{IsSaid, between_seam, seen_by}

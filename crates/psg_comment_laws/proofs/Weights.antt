@@ -1,15 +1,12 @@
 -- A tree fixes how many of the tokens that it yields are counted.
-use Rattle.std.proofs.Common.{◌≡◌, ℕ, ◌+◌, ◌==◌, Bool, true, false, cond, List, [], ◌∷◌, ◌++◌, Option, Some, None, slice_get, map, sym, ap, ◌∙◌, subst, refl, arith}
+use Rattle.std.proofs.Common.{◌≡◌, ℕ, ◌+◌, ◌==◌, Bool, true, false, cond, List, [], ◌∷◌, ◌++◌, Option, Some, None, slice_get, sym, ap, ◌∙◌, subst, refl, arith}
 use Rattle.std.specs.Prelude.{bytes_eq, chars, codes, count_by, encode_utf8_all, not, ◌&&◌, ◌||◌}
-use Rattle.std.specs.List.{list_all}
-use Rattle.std.proofs.lemmas.Bool.{and_parts, eqb-true, false≢true}
+use Rattle.std.proofs.lemmas.Bool.{eqb-true, false≢true}
 use Rattle.std.proofs.lemmas.List.Sums.{sum_by-cons}
 use Rattle.std.proofs.lemmas.Str.{chars-encodes, encode_ascii}
-use lib.Utf8.{scalar}
 use Rattle.psg_terms.specs.Names.{Name, is_among}
-use Rattle.psg_terms.specs.Words.{starts_word, goes_on_word}
-use Rattle.psg_lexis.specs.Classes.{is_solo, is_symbol}
-use Rattle.psg_lexis.specs.Tokens as lexed
+use Rattle.psg_terms.specs.Words.{starts_word}
+use Rattle.psg_lexis.specs.Classes.{is_solo}
 use Rattle.psg_lexis.specs.declared.token.Spanned.{Spanned}
 use Rattle.psg_lexis.proofs.Disjoint.{solo_apart}
 use Rattle.psg_grammar.specs.declared.types.Definition.{Definition}
@@ -22,7 +19,7 @@ use Rattle.psg_grammar.specs.declared.types.Operator.{Operator}
 use Rattle.psg_grammar.specs.Fragments.{Fragment, hole, ending, cell, operator, with_child, with_name, with_number, with_text, anything, observed}
 use Rattle.psg_grammar.specs.WellFormed.{fixed_words}
 use Rattle.psg_class.specs.Places.{solid}
-use Rattle.psg_class.specs.Terminals.{Token, word, numeral, quoted, solo, symbols, placeholder, dots, Terminal, fixed, a_name, a_number, a_text, a_hole, a_more, stray, is_word, is_run, are_word, word_terminal, fixed_if, terminal_of}
+use Rattle.psg_class.specs.Terminals.{Token, word, numeral, quoted, solo, symbols, placeholder, dots, fixed, a_name, a_number, a_text, a_hole, a_more, stray, is_word, is_run, are_word, word_terminal, fixed_if, terminal_of}
 use Rattle.psg_class.specs.Texts.{tokens_of}
 use Rattle.psg_class.specs.Yields.{TreeYields, of_hole, of_operator, in_brackets, PartsYield, no_items, of_word, of_refers, of_declares, of_number, of_text, of_slot, of_list_slot, ListYields, no_elements, only_more, elements, SomeYield, last_element, and_more, and_elements, Yields}
 use Rattle.psg_commented.specs.Noting.{counts, is_counted}
