@@ -75,7 +75,7 @@ module _ (fixed : List Name) (token : List ℕ) (fit : IsFit fixed token) where
       → AreGood fixed token (all_pieces m.parts notes)
   good_of printed shown notes m = good_all fixed token fit m.parts m.tail m.parts_fit notes m.said
 
-  keeps : (text printed : List ℕ) (ts shown : List Spanned) (comments : List Comment)
+  pub keeps : (text printed : List ℕ) (ts shown : List Spanned) (comments : List Comment)
       → IsPrinting fixed token text ts comments printed shown
       → Keeps fixed token shown (notes_of text ts comments) (with_notes printed shown (notes_of text ts comments))
   keeps text printed ts shown comments p =

@@ -5,7 +5,7 @@
 #![tactic(auto)]
 
 ghost use Rattle.psg_comment_laws.specs.Laws.{HasOneReading, KeepsAll, LosesNone, PrintsOnce};
-ghost use Rattle.psg_comment_laws.specs.Programs.{LosesNoneOfPrograms};
+ghost use Rattle.psg_comment_laws.specs.Programs.{LosesNoneOfPrograms, StaysProgram};
 ghost use Rattle.psg_comments.specs.Fitting.{IsFit};
 ghost use Rattle.psg_grammar.specs.WellFormed.{fixed_words};
 
@@ -46,4 +46,12 @@ pub fn prints_once(words: &[Txt], token: &str)
 pub fn programs_lose_none(definition: &Definition, token: &str)
     requires fit { IsFit (fixed_words definition.now) token.now }
     ensures { LosesNoneOfPrograms definition.now token.now }
+{}
+
+/// States that the printed text of a program with the program's comments is this program: without its comments it
+/// reads as the same tree, with brackets nested as deep as in the printed text. With `prints_once`, to print a program
+/// twice is to print it once. The call has no cost.
+pub fn programs_stay(definition: &Definition, token: &str)
+    requires fit { IsFit (fixed_words definition.now) token.now }
+    ensures { StaysProgram definition.now token.now }
 {}
