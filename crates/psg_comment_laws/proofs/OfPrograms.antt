@@ -1,6 +1,8 @@
 -- The printed text of a program has as many tokens that are counted, so it keeps the program's comments.
-use Rattle.std.proofs.Common.{◌≡◌, ℕ, List, subst, arith}
+use Rattle.std.proofs.Common.{◌≡◌, ℕ, List, sym, subst, arith}
 use Rattle.std.specs.Prelude.{chars, count_by}
+use Rattle.psg_lexis.specs.Tokens.{HasTokens}
+use Rattle.psg_lexis.specs.declared.token.Spanned.{Spanned}
 use Rattle.psg_lexis.proofs.Laws.{only_tokens}
 use Rattle.psg_grammar.specs.declared.types.Definition.{Definition}
 use Rattle.psg_grammar.specs.declared.types.Kind.{Kind}
@@ -14,7 +16,9 @@ use Rattle.psg_comments.specs.declared.finding.Comment.{Comment}
 use Rattle.psg_commented.specs.Noting.{counts, notes_of}
 use Rattle.psg_commented.specs.Printing.{with_notes}
 use Rattle.psg_commented.specs.Keeping.{Keeps}
-use Rattle.psg_comment_laws.specs.Programs.{LosesNoneOfPrograms}
+use Rattle.psg_comment_laws.specs.Laws.{IsPrinting, AreSame}
+use Rattle.psg_comment_laws.specs.Programs.{PrintsProgram, LosesNoneOfPrograms, StaysProgram}
+use Rattle.psg_comment_laws.proofs.Once.{one_reading}
 use Rattle.psg_comment_laws.proofs.Kept.{keeps, loses_none}
 use Rattle.psg_comment_laws.proofs.Weights.{same_count}
 
