@@ -22,6 +22,7 @@ mod laws;
 mod linking;
 mod methods;
 mod names;
+mod notices;
 mod ranges;
 mod server;
 
