@@ -1,6 +1,8 @@
 //! Notes about documents: those that are open, and what is published of them.
 ghost use Rattle.std.specs.Prelude.{ℕ, ◌≡◌, List, IfOk, OnErr, Some};
 ghost use Rattle.std.specs.Option.{option_map};
+ghost use Rattle.psg_defcomment.specs.Reading.{IsCommentOf};
+ghost use Rattle.psg_grammar.specs.WellFormed.{fixed_words};
 ghost use Rattle.psg_grammar.specs.Kinds.{HasKind};
 ghost use Rattle.psg_messages.specs.Messages.{given_of, note};
 ghost use Rattle.psg_specimen.specs.Languages.{IsDeclaringPhylum};
@@ -17,11 +19,11 @@ ghost use Rattle.psg_server.specs.Methods.{notice_of};
 use crate::diagnostics::{cleared, published};
 use crate::documents::Document;
 use crate::fields::{Told, address_in, has_no_changes, last_text_in, opened_in, version_after};
+use crate::judging::Defined;
 use crate::methods::Notice;
 use crate::server::{Reply, Server};
 use psg_grammar::Kind;
 use psg_messages::Params;
-use psg_specimen::Language;
 use psg_terms::{Steps, Txt};
 use std::alloc::{AllocError, Global};
 use std::sync::ledger::Ledger;
@@ -97,17 +99,18 @@ impl Server {
     fn keep<L: Ledger>(
         &mut self,
         alloc: Global,
-        language: &Language,
+        defined: &Defined,
         kind: Kind,
         document: Document,
         steps: &mut Steps<L>,
     ) -> Result<Reply, AllocError>
-        requires kind { HasKind language.now kind }
-        requires quiet_kind { IsDeclaringPhylum language.now kind → ⊥ }
-        ensures kept { IfOk result (λ r. IsKept language.now kind document self.old self.new (out_of r)) }
+        requires kind { HasKind defined.now.language kind }
+        requires fit { IsCommentOf (fixed_words defined.now.language) defined.now.comment }
+        requires quiet_kind { IsDeclaringPhylum defined.now.language kind → ⊥ }
+        ensures kept { IfOk result (λ r. IsKept defined.now kind document self.old self.new (out_of r)) }
         ensures memory { OnErr result (self.new ≡ self.old) }
     {
-        let value = published(alloc, language, kind, self.encoding, &document, steps)?;
+        let value = published(alloc, defined, kind, self.encoding, &document, steps)?;
         self.documents.put(document)?;
         Ok(Reply::Sent(value))
     }
@@ -116,15 +119,16 @@ impl Server {
     fn open<L: Ledger>(
         &mut self,
         alloc: Global,
-        language: &Language,
+        defined: &Defined,
         kind: Kind,
         given: Params<'_>,
         steps: &mut Steps<L>,
     ) -> Result<Reply, AllocError>
-        requires kind { HasKind language.now kind }
-        requires quiet_kind { IsDeclaringPhylum language.now kind → ⊥ }
+        requires kind { HasKind defined.now.language kind }
+        requires fit { IsCommentOf (fixed_words defined.now.language) defined.now.comment }
+        requires quiet_kind { IsDeclaringPhylum defined.now.language kind → ⊥ }
         ensures served { IfOk result (λ r. (method : List ℕ) → notice_of method ≡ Some notices.Opened
-            → Serves language.now kind self.old (note method (given_of given.entry))
+            → Serves defined.now kind self.old (note method (given_of given.entry))
             self.new.encoding self.new.documents (out_of r)) }
         ensures phase { self.new.phase ≡ self.old.phase }
         ensures memory { OnErr result (self.new ≡ self.old) }
@@ -132,7 +136,7 @@ impl Server {
         match opened_in(given) {
             Some(told) => {
                 let document = opened(alloc, told)?;
-                let reply = self.keep(alloc, language, kind, document, steps)?;
+                let reply = self.keep(alloc, defined, kind, document, steps)?;
                 Ok(reply)
             }
             None => Ok(Reply::Nothing),
@@ -158,15 +162,16 @@ impl Server {
     fn change<L: Ledger>(
         &mut self,
         alloc: Global,
-        language: &Language,
+        defined: &Defined,
         kind: Kind,
         given: Params<'_>,
         steps: &mut Steps<L>,
     ) -> Result<Reply, AllocError>
-        requires kind { HasKind language.now kind }
-        requires quiet_kind { IsDeclaringPhylum language.now kind → ⊥ }
+        requires kind { HasKind defined.now.language kind }
+        requires fit { IsCommentOf (fixed_words defined.now.language) defined.now.comment }
+        requires quiet_kind { IsDeclaringPhylum defined.now.language kind → ⊥ }
         ensures served { IfOk result (λ r. (method : List ℕ) → notice_of method ≡ Some notices.Changed
-            → Serves language.now kind self.old (note method (given_of given.entry))
+            → Serves defined.now kind self.old (note method (given_of given.entry))
             self.new.encoding self.new.documents (out_of r)) }
         ensures phase { self.new.phase ≡ self.old.phase }
         ensures memory { OnErr result (self.new ≡ self.old) }
@@ -174,7 +179,7 @@ impl Server {
         let found = self.changed(alloc, given)?;
         match found {
             Some(document) => {
-                let reply = self.keep(alloc, language, kind, document, steps)?;
+                let reply = self.keep(alloc, defined, kind, document, steps)?;
                 Ok(reply)
             }
             None => Ok(Reply::Nothing),
@@ -216,27 +221,28 @@ impl Server {
     pub(crate) fn serve_notice<L: Ledger>(
         &mut self,
         alloc: Global,
-        language: &Language,
+        defined: &Defined,
         kind: Kind,
         notice: Notice,
         given: Params<'_>,
         steps: &mut Steps<L>,
     ) -> Result<Reply, AllocError>
-        requires kind { HasKind language.now kind }
-        requires quiet_kind { IsDeclaringPhylum language.now kind → ⊥ }
+        requires kind { HasKind defined.now.language kind }
+        requires fit { IsCommentOf (fixed_words defined.now.language) defined.now.comment }
+        requires quiet_kind { IsDeclaringPhylum defined.now.language kind → ⊥ }
         ensures served { IfOk result (λ r. (method : List ℕ) → notice_of method ≡ Some notice
-            → Serves language.now kind self.old (note method (given_of given.entry))
+            → Serves defined.now kind self.old (note method (given_of given.entry))
             self.new.encoding self.new.documents (out_of r)) }
         ensures phase { self.new.phase ≡ self.old.phase }
         ensures memory { OnErr result (self.new ≡ self.old) }
     {
         match notice {
             Notice::Opened => {
-                let reply = self.open(alloc, language, kind, given, steps)?;
+                let reply = self.open(alloc, defined, kind, given, steps)?;
                 Ok(reply)
             }
             Notice::Changed => {
-                let reply = self.change(alloc, language, kind, given, steps)?;
+                let reply = self.change(alloc, defined, kind, given, steps)?;
                 Ok(reply)
             }
             Notice::Closed => {

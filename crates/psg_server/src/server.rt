@@ -3,6 +3,8 @@ ghost use Rattle.std.specs.Prelude.{ℕ, ◌≡◌, [], List, IfOk, OnErr, Some}
 ghost use Rattle.std.specs.Option.{option_map};
 ghost use Rattle.serde_json.specs.View.{view};
 ghost use Rattle.psg_documents.specs.declared.encoding.Encoding.TheVariants as encodings;
+ghost use Rattle.psg_defcomment.specs.Reading.{IsCommentOf};
+ghost use Rattle.psg_grammar.specs.WellFormed.{fixed_words};
 ghost use Rattle.psg_grammar.specs.Kinds.{HasKind};
 ghost use Rattle.psg_messages.specs.Messages.{given_of, note, request, said_of};
 ghost use Rattle.psg_messages.specs.Turns.{due, served};
@@ -23,13 +25,13 @@ use crate::documents::{Document, Documents};
 use crate::edits::{document_edits, null_value};
 use crate::fields::{address_in, encoding_in, position_in};
 use crate::hovering::document_hover;
+use crate::judging::Defined;
 use crate::methods::{Call, Notice, call_of, is_known, notice_of};
 use psg_documents::{Encoding, Position};
 use psg_grammar::Kind;
 use psg_messages::{
     Fault, Message, Params, Phase, Turn, answer, message_of, parsed, phase_after, refusal, turn_of,
 };
-use psg_specimen::Language;
 use psg_terms::Steps;
 use serde_json::Value;
 use std::alloc::{AllocError, Global};
@@ -150,20 +152,21 @@ impl Server {
     fn format<L: Ledger>(
         &self,
         alloc: Global,
-        language: &Language,
+        defined: &Defined,
         kind: Kind,
         id: &Value,
         given: Params<'_>,
         steps: &mut Steps<L>,
     ) -> Result<Reply, AllocError>
-        requires { HasKind language.now kind }
+        requires kind { HasKind defined.now.language kind }
+        requires fit { IsCommentOf (fixed_words defined.now.language) defined.now.comment }
         ensures { IfOk result (λ r. (method : List ℕ) → call_of method ≡ Some calls.Formatting
-            → Serves language.now kind self.now (request (view id.now) method (given_of given.entry))
+            → Serves defined.now kind self.now (request (view id.now) method (given_of given.entry))
             self.now.encoding self.now.documents (out_of r)) }
     {
         match self.open_in(given) {
             Some(document) => {
-                let edits = document_edits(alloc, language, kind, self.encoding, document, steps)?;
+                let edits = document_edits(alloc, defined, kind, self.encoding, document, steps)?;
                 let reply = answered(alloc, id, edits)?;
                 Ok(reply)
             }
@@ -187,15 +190,16 @@ impl Server {
     fn hover<L: Ledger>(
         &self,
         alloc: Global,
-        language: &Language,
+        defined: &Defined,
         kind: Kind,
         id: &Value,
         given: Params<'_>,
         steps: &mut Steps<L>,
     ) -> Result<Reply, AllocError>
-        requires { HasKind language.now kind }
+        requires kind { HasKind defined.now.language kind }
+        requires fit { IsCommentOf (fixed_words defined.now.language) defined.now.comment }
         ensures { IfOk result (λ r. (method : List ℕ) → call_of method ≡ Some calls.Hover
-            → Serves language.now kind self.now (request (view id.now) method (given_of given.entry))
+            → Serves defined.now kind self.now (request (view id.now) method (given_of given.entry))
             self.now.encoding self.now.documents (out_of r)) }
     {
         match self.place_in(given) {
@@ -204,7 +208,7 @@ impl Server {
                 let position = place.position;
                 let told = document_hover(
                     alloc,
-                    language,
+                    defined,
                     kind,
                     self.encoding,
                     document,
@@ -225,16 +229,17 @@ impl Server {
     fn serve_call<L: Ledger>(
         &mut self,
         alloc: Global,
-        language: &Language,
+        defined: &Defined,
         kind: Kind,
         call: Call,
         id: &Value,
         given: Params<'_>,
         steps: &mut Steps<L>,
     ) -> Result<Reply, AllocError>
-        requires { HasKind language.now kind }
+        requires kind { HasKind defined.now.language kind }
+        requires fit { IsCommentOf (fixed_words defined.now.language) defined.now.comment }
         ensures served { IfOk result (λ r. (method : List ℕ) → call_of method ≡ Some call
-            → Serves language.now kind self.old (request (view id.now) method (given_of given.entry))
+            → Serves defined.now kind self.old (request (view id.now) method (given_of given.entry))
             self.new.encoding self.new.documents (out_of r)) }
         ensures phase { self.new.phase ≡ self.old.phase }
         ensures memory { OnErr result (self.new ≡ self.old) }
@@ -249,23 +254,23 @@ impl Server {
                 Ok(reply)
             }
             Call::Formatting => {
-                let reply = self.format(alloc, language, kind, id, given, steps)?;
+                let reply = self.format(alloc, defined, kind, id, given, steps)?;
                 Ok(reply)
             }
             Call::Hover => {
-                let reply = self.hover(alloc, language, kind, id, given, steps)?;
+                let reply = self.hover(alloc, defined, kind, id, given, steps)?;
                 Ok(reply)
             }
             Call::Completion => {
-                let reply = self.complete(alloc, language, kind, id, given, steps)?;
+                let reply = self.complete(alloc, defined, kind, id, given, steps)?;
                 Ok(reply)
             }
             Call::Asking(ask) => {
-                let reply = self.ask(alloc, language, kind, ask, id, given, steps)?;
+                let reply = self.ask(alloc, defined, kind, ask, id, given, steps)?;
                 Ok(reply)
             }
             Call::Renaming => {
-                let reply = self.rename(alloc, language, kind, id, given, steps)?;
+                let reply = self.rename(alloc, defined, kind, id, given, steps)?;
                 Ok(reply)
             }
         }
@@ -275,15 +280,16 @@ impl Server {
     fn serve<L: Ledger>(
         &mut self,
         alloc: Global,
-        language: &Language,
+        defined: &Defined,
         kind: Kind,
         message: &Message<'_>,
         steps: &mut Steps<L>,
     ) -> Result<Reply, AllocError>
-        requires kind { HasKind language.now kind }
-        requires quiet_kind { IsDeclaringPhylum language.now kind → ⊥ }
+        requires kind { HasKind defined.now.language kind }
+        requires fit { IsCommentOf (fixed_words defined.now.language) defined.now.comment }
+        requires quiet_kind { IsDeclaringPhylum defined.now.language kind → ⊥ }
         requires due { due self.old.phase (is_known (said_of message.now)) (said_of message.now) ≡ served }
-        ensures served { IfOk result (λ r. Serves language.now kind self.old (said_of message.now)
+        ensures served { IfOk result (λ r. Serves defined.now kind self.old (said_of message.now)
             self.new.encoding self.new.documents (out_of r)) }
         ensures phase { self.new.phase ≡ self.old.phase }
         ensures memory { OnErr result (self.new ≡ self.old) }
@@ -291,14 +297,14 @@ impl Server {
         match *message {
             Message::Request { id, method, given } => match call_of(method) {
                 Some(call) => {
-                    let reply = self.serve_call(alloc, language, kind, call, id, given, steps)?;
+                    let reply = self.serve_call(alloc, defined, kind, call, id, given, steps)?;
                     Ok(reply)
                 }
                 None => unreachable!(),
             },
             Message::Note { method, given } => match notice_of(method) {
                 Some(notice) => {
-                    let reply = self.serve_notice(alloc, language, kind, notice, given, steps)?;
+                    let reply = self.serve_notice(alloc, defined, kind, notice, given, steps)?;
                     Ok(reply)
                 }
                 None => unreachable!(),
@@ -312,14 +318,15 @@ impl Server {
     fn take<L: Ledger>(
         &mut self,
         alloc: Global,
-        language: &Language,
+        defined: &Defined,
         kind: Kind,
         message: &Message<'_>,
         steps: &mut Steps<L>,
     ) -> Result<Reply, AllocError>
-        requires kind { HasKind language.now kind }
-        requires quiet_kind { IsDeclaringPhylum language.now kind → ⊥ }
-        ensures gets { IfOk result (λ r. Gets language.now kind self.old (said_of message.now) self.new (out_of r)) }
+        requires kind { HasKind defined.now.language kind }
+        requires fit { IsCommentOf (fixed_words defined.now.language) defined.now.comment }
+        requires quiet_kind { IsDeclaringPhylum defined.now.language kind → ⊥ }
+        ensures gets { IfOk result (λ r. Gets defined.now kind self.old (said_of message.now) self.new (out_of r)) }
         ensures memory { OnErr result (self.new ≡ self.old) }
     {
         let turn = turn_of(self.phase, is_known(message), message);
@@ -330,27 +337,29 @@ impl Server {
                 Ok(reply)
             }
             Turn::Serve => {
-                let reply = self.serve(alloc, language, kind, message, steps)?;
+                let reply = self.serve(alloc, defined, kind, message, steps)?;
                 self.phase = phase_after(self.phase, &turn, message);
                 Ok(reply)
             }
         }
     }
 
-    /// Takes the body of the next frame, and returns what follows from it. Documents are to be programs of the kind.
+    /// Takes the body of the next frame, and returns what follows from it. Documents are to be programs of the kind, and
+    /// may have comments where the language has a token for them.
     /// Fails only when out of memory, and the server is then as before. A message with a text takes the time of a
     /// report of it, or of its printing, and all others take a step for each byte.
     pub fn answer<L: Ledger>(
         &mut self,
         alloc: Global,
-        language: &Language,
+        defined: &Defined,
         kind: Kind,
         body: &[u8],
         steps: &mut Steps<L>,
     ) -> Result<Reply, AllocError>
-        requires kind { HasKind language.now kind }
-        requires quiet_kind { IsDeclaringPhylum language.now kind → ⊥ }
-        ensures answered { IfOk result (λ r. Answers language.now kind body.now self.old self.new (out_of r)) }
+        requires kind { HasKind defined.now.language kind }
+        requires fit { IsCommentOf (fixed_words defined.now.language) defined.now.comment }
+        requires quiet_kind { IsDeclaringPhylum defined.now.language kind → ⊥ }
+        ensures answered { IfOk result (λ r. Answers defined.now kind body.now self.old self.new (out_of r)) }
         ensures memory { OnErr result (self.new ≡ self.old) }
     {
         let found = parsed(alloc, body)?;
@@ -361,7 +370,7 @@ impl Server {
             }
             Some(value) => {
                 let message = message_of(&value);
-                let reply = self.take(alloc, language, kind, &message, steps)?;
+                let reply = self.take(alloc, defined, kind, &message, steps)?;
                 Ok(reply)
             }
         }
