@@ -16,7 +16,7 @@ ghost use Rattle.psg_server.specs.Methods.{call_of};
 
 use crate::documents::Document;
 use crate::edits::{edit_of, null_value};
-use crate::judging::{Defined, Judged, is_commenting, judged};
+use crate::judging::{Defined, Judged, is_commenting, without_comments};
 use crate::ranges::{Page, range_value};
 use crate::server::{Reply, Server, answered, refused};
 use psg_completing::{Completion, Entry, completion_at};
@@ -193,7 +193,7 @@ fn text_completion<L: Ledger>(
     ensures { IfOk result (λ v. OfJudged defined.now text.now (λ comments bytes.
         IsCompletedAt defined.now.language kind encoding text.now comments bytes position (view v))) }
 {
-    let own = judged(alloc, defined, text)?;
+    let own = without_comments(alloc, defined, text)?;
     let language = &defined.language;
     let value = completed_at(
         alloc, language, kind, encoding, text, &own, position, steps,

@@ -15,7 +15,7 @@ ghost use Rattle.psg_server.specs.Judging.{OfJudged};
 
 use crate::documents::Document;
 use crate::fields::Told;
-use crate::judging::{Defined, Judged, judged};
+use crate::judging::{Defined, Judged, without_comments};
 use crate::ranges::{Page, after, range_value};
 use psg_documents::{Encoding, Lines};
 use psg_grammar::Kind;
@@ -231,7 +231,7 @@ fn text_report<L: Ledger>(
         IsReported defined.now.language kind encoding told.entry.address.now told.entry.version told.entry.text.now
         bytes (view v))) }
 {
-    let own = judged(alloc, defined, told.text)?;
+    let own = without_comments(alloc, defined, told.text)?;
     let language = &defined.language;
     let value = reported(alloc, language, kind, encoding, told, &own, steps)?;
     Ok(value)

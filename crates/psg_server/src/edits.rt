@@ -20,7 +20,7 @@ ghost use Rattle.psg_server.specs.Edits.{IsEdit, IsFormatting, IsFormattingOf, I
 ghost use Rattle.psg_server.specs.Judging.{OfJudged};
 
 use crate::documents::Document;
-use crate::judging::{Defined, Judged, judged, unmarked_text};
+use crate::judging::{Defined, Judged, without_comments, unmarked_text};
 use crate::ranges::{Page, range_value};
 use psg_commented::with_comments;
 use psg_comments::Comment;
@@ -313,7 +313,7 @@ fn text_edits<L: Ledger>(
     ensures { IfOk result (λ v. OfJudged defined.now text.now (λ comments bytes.
         IsFormatting defined.now kind encoding text.now comments bytes (view v))) }
 {
-    let own = judged(alloc, defined, text)?;
+    let own = without_comments(alloc, defined, text)?;
     let value = formatting(alloc, defined, kind, encoding, text, &own, steps)?;
     Ok(value)
 }

@@ -11,7 +11,7 @@ ghost use Rattle.psg_server.specs.Judging.{OfJudged};
 
 use crate::documents::Document;
 use crate::edits::null_value;
-use crate::judging::{Defined, Judged, is_comment, judged};
+use crate::judging::{Defined, Judged, is_comment, without_comments};
 use crate::ranges::{Page, range_value};
 use psg_documents::{Encoding, Lines, Position};
 use psg_grammar::Kind;
@@ -146,7 +146,7 @@ fn text_hover<L: Ledger>(
     ensures { IfOk result (λ v. OfJudged defined.now text.now (λ comments bytes.
         IsToldAt defined.now.language kind encoding text.now comments bytes position (view v))) }
 {
-    let own = judged(alloc, defined, text)?;
+    let own = without_comments(alloc, defined, text)?;
     let language = &defined.language;
     let value = told_at(
         alloc, language, kind, encoding, text, &own, position, steps,

@@ -15,7 +15,7 @@ ghost use Rattle.psg_server.specs.Linking.{IsRepliedOf, IsReply, IsReplyOf, IsSh
 use crate::diagnostics::byte_in;
 use crate::documents::Document;
 use crate::edits::{edit_of, null_value};
-use crate::judging::{Defined, Judged, judged, own_byte};
+use crate::judging::{Defined, Judged, without_comments, own_byte};
 use crate::methods::Ask;
 use crate::ranges::{Page as Sheet, range_value};
 use psg_documents::{Encoding, Lines, Position};
@@ -361,7 +361,7 @@ fn text_reply<L: Ledger>(
     ensures { IfOk result (λ v. OfJudged defined.now text.now (λ comments bytes.
         IsReplied encoding text.now address.now defined.now.language kind bytes ask all at (view v))) }
 {
-    let own = judged(alloc, defined, text)?;
+    let own = without_comments(alloc, defined, text)?;
     let lines = Lines::of(alloc, text)?;
     let sheet = Sheet {
         encoding,

@@ -13,7 +13,7 @@ ghost use Rattle.psg_server.specs.Told.{naming_of};
 
 use crate::documents::Document;
 use crate::fields::Naming;
-use crate::judging::{Defined, Judged, judged};
+use crate::judging::{Defined, Judged, without_comments};
 use crate::linking::{Showing, all_shown, byte_at, list_of};
 use crate::ranges::Page as Sheet;
 use psg_documents::{Encoding, Lines};
@@ -151,7 +151,7 @@ fn text_naming<L: Ledger>(
         (λ why. OfJudged defined.now text.now (λ comments bytes. IsUnnamed defined.now.language kind encoding address.now
         text.now bytes (naming_of naming.entry) why))) }
 {
-    let own = judged(alloc, defined, text)?;
+    let own = without_comments(alloc, defined, text)?;
     let lines = Lines::of(alloc, text)?;
     let sheet = Sheet {
         encoding,
