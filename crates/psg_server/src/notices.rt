@@ -12,7 +12,7 @@ ghost use Rattle.psg_server.specs.Answering as answering;
 ghost use Rattle.psg_server.specs.Fields.{changed_in, changes_in, text_after};
 ghost use Rattle.psg_server.specs.Kept.{IsClosed, IsKept};
 ghost use Rattle.psg_server.specs.Told.{document_of};
-ghost use Rattle.psg_grammar.specs.declared.types.Definition.{Definition as Plain};
+ghost use Rattle.psg_server.specs.declared.judging.Defined.{Defined as Plain};
 ghost use Rattle.psg_grammar.specs.declared.types.Kind.{Kind as PlainKind};
 ghost use Rattle.psg_server.specs.Methods.{notice_of};
 

@@ -16,7 +16,7 @@ ghost use Rattle.psg_server.specs.Answering.{Answers, Gets, Serves, out_of, reas
 ghost use Rattle.psg_server.specs.Answering as answering;
 ghost use Rattle.psg_server.specs.Told.{place_of};
 ghost use Rattle.psg_messages.specs.Answers.{answer_of};
-ghost use Rattle.psg_grammar.specs.declared.types.Definition.{Definition as Plain};
+ghost use Rattle.psg_server.specs.declared.judging.Defined.{Defined as Plain};
 ghost use Rattle.psg_grammar.specs.declared.types.Kind.{Kind as PlainKind};
 ghost use Rattle.psg_server.specs.Methods.{call_of, is_known, notice_of};
 
