@@ -140,12 +140,16 @@ class Definition:
         self.holes = []
         self.declares = []
         self.spaces = {}
+        self.comment = ""
         for line in open(path, encoding="utf-8"):
             words = Words(line.rstrip("\r\n"))
             read = getattr(self, f"read_{words.peek()}", None)
             if read and not line.startswith("#"):
                 words.next()
                 read(words)
+
+    def read_comment(self, words):
+        self.comment = unquoted(words.next())
 
     def read_sort(self, words):
         name = words.next()

@@ -1,0 +1,12 @@
+pub mod Readings
+pub mod Once
+pub mod Pieces
+pub mod Saying
+pub mod Parting
+pub mod Printed
+pub mod Good
+pub mod Kept
+pub mod Weights
+pub mod OfPrograms
+pub mod Trails
+pub mod Again
