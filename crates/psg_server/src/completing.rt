@@ -195,9 +195,7 @@ fn text_completion<L: Ledger>(
 {
     let own = without_comments(alloc, defined, text)?;
     let language = &defined.language;
-    let value = completed_at(
-        alloc, language, kind, encoding, text, &own, position, steps,
-    )?;
+    let value = completed_at(alloc, language, kind, encoding, text, &own, position, steps)?;
     Ok(value)
 }
 

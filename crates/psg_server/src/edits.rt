@@ -20,7 +20,7 @@ ghost use Rattle.psg_server.specs.Edits.{IsEdit, IsFormatting, IsFormattingOf, I
 ghost use Rattle.psg_server.specs.Judging.{OfJudged};
 
 use crate::documents::Document;
-use crate::judging::{Defined, Judged, without_comments, unmarked_text};
+use crate::judging::{Defined, Judged, unmarked_text, without_comments};
 use crate::ranges::{Page, range_value};
 use psg_commented::with_comments;
 use psg_comments::Comment;

@@ -148,9 +148,7 @@ fn text_hover<L: Ledger>(
 {
     let own = without_comments(alloc, defined, text)?;
     let language = &defined.language;
-    let value = told_at(
-        alloc, language, kind, encoding, text, &own, position, steps,
-    )?;
+    let value = told_at(alloc, language, kind, encoding, text, &own, position, steps)?;
     Ok(value)
 }
 

@@ -88,7 +88,11 @@ fn blank_text(alloc: Global, lexis: &Lexis, token: &str, text: &str) -> Result<J
 
 /// Returns what is judged of the text, with its comments. Fails only when out of memory, and takes time linear in the
 /// text.
-pub(crate) fn without_comments(alloc: Global, defined: &Defined, text: &str) -> Result<Judged, AllocError>
+pub(crate) fn without_comments(
+    alloc: Global,
+    defined: &Defined,
+    text: &str,
+) -> Result<Judged, AllocError>
     requires fit { IsCommentOf (fixed_words defined.now.language) defined.now.comment }
     ensures { IfOk result (λ own. IsJudged (fixed_words defined.now.language) defined.now.comment text.now
         own.comments.items own.bytes.items) }

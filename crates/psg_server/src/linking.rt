@@ -15,7 +15,7 @@ ghost use Rattle.psg_server.specs.Linking.{IsRepliedOf, IsReply, IsReplyOf, IsSh
 use crate::diagnostics::byte_in;
 use crate::documents::Document;
 use crate::edits::{edit_of, null_value};
-use crate::judging::{Defined, Judged, without_comments, own_byte};
+use crate::judging::{Defined, Judged, own_byte, without_comments};
 use crate::methods::Ask;
 use crate::ranges::{Page as Sheet, range_value};
 use psg_documents::{Encoding, Lines, Position};

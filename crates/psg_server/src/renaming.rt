@@ -159,9 +159,7 @@ fn text_naming<L: Ledger>(
         lines: &lines,
     };
     let language = &defined.language;
-    let named = sheet_naming(
-        alloc, language, kind, &sheet, &own, address, naming, steps,
-    )?;
+    let named = sheet_naming(alloc, language, kind, &sheet, &own, address, naming, steps)?;
     Ok(named)
 }
 
