@@ -1,0 +1,2 @@
+-- Laws of pairings.
+use Rattle.std.proofs.Common.{◌≡◌, ℕ}

@@ -1,0 +1,58 @@
+-- Where the comments of a text go in a new one.
+use Rattle.std.specs.Prelude.{ℕ, ◌≡◌, ◌≤◌, ◌+◌, ◌-◌, ◌==◌, max, cond, zero, suc, List, [], ◌∷◌, length, get_or, reverse}
+use Rattle.std.specs.List.{sum_by}
+use Rattle.psg_commented.specs.declared.noting.Note.{Note}
+use Rattle.psg_keeping.specs.Rows.{new_in, old_in}
+use Rattle.psg_keeping.specs.declared.pairing.Step.{Step}
+use Rattle.psg_keeping.specs.declared.pairing.Step.TheVariants as steps
+
+-- how many tokens of the old list, and of the new one, the steps take
+abbrev pub olds : List Step → ℕ
+olds own = sum_by old_in own
+
+abbrev pub news : List Step → ℕ
+news own = sum_by new_in own
+
+-- one more, but for none
+abbrev pub one_more : ℕ → ℕ
+one_more count = cond (count == 0) 0 (count + 1)
+
+-- how many new tokens there are up to the partner of the last paired one of the first `count` old tokens; none, where
+-- none of those is paired
+abbrev pub after_partner : ℕ → List Step → ℕ
+after_partner zero own = 0
+after_partner (suc count) [] = 0
+after_partner (suc count) (steps.Both ∷ more) = 1 + after_partner count more
+after_partner (suc count) (steps.Old ∷ more) = after_partner count more
+after_partner (suc count) (steps.New ∷ more) = one_more (after_partner (suc count) more)
+
+-- how many new tokens there are before the partner of the first paired one of the old tokens after the first `count`;
+-- all, where none of those is paired: the same, seen from the end
+abbrev pub before_partner : ℕ → List Step → ℕ
+before_partner count own = news own - after_partner (olds own - count) (reverse own)
+
+-- how many new tokens are before the comment, where no other comment is: one after a token on its line is after the
+-- partner of the last paired token before it, and one on a line of its own before the partner of the first paired
+-- token after it
+abbrev pub goes : List Step → Note → ℕ
+goes own n = cond n.trails (after_partner n.before own) (before_partner n.before own)
+
+-- the comment with so many tokens before it
+abbrev pub placed : ℕ → Note → Note
+placed count n = record { before = count; trails = n.trails; text = n.text }
+
+-- the comments beside the new tokens, each with `low` tokens before it at least, and none before the one before it
+abbrev pub moved : ℕ → List Step → List Note → List Note
+moved low own [] = []
+moved low own (n ∷ notes) = placed (max low (goes own n)) n ∷ moved (max low (goes own n)) own notes
+
+-- how many new tokens there are up to the last partner after a step, where `seen` are up to its end
+abbrev pub last_of : Step → ℕ → ℕ → ℕ
+last_of steps.Both seen last = seen
+last_of steps.Old seen last = last
+last_of steps.New seen last = last
+
+-- for each number of old tokens, how many new ones there are up to the partner of the last paired one of them
+pub record AreAfters (own : List Step) (places : List ℕ) : Type 0 where
+  pub size : length places ≡ olds own + 1
+  pub each : (count : ℕ) → count ≤ olds own → get_or places count 0 ≡ after_partner count own
