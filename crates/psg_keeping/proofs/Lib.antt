@@ -1,1 +1,3 @@
 pub mod PairLaws
+pub mod RowLaws
+pub mod MoveLaws

@@ -1,17 +1,21 @@
 -- Where the comments of a text go in a new one.
 use Rattle.std.specs.Prelude.{ℕ, ◌≡◌, ◌≤◌, ◌+◌, ◌-◌, ◌==◌, max, cond, zero, suc, List, [], ◌∷◌, length, get_or, reverse}
-use Rattle.std.specs.List.{sum_by}
 use Rattle.psg_commented.specs.declared.noting.Note.{Note}
-use Rattle.psg_keeping.specs.Rows.{new_in, old_in}
 use Rattle.psg_keeping.specs.declared.pairing.Step.{Step}
 use Rattle.psg_keeping.specs.declared.pairing.Step.TheVariants as steps
 
 -- how many tokens of the old list, and of the new one, the steps take
 abbrev pub olds : List Step → ℕ
-olds own = sum_by old_in own
+olds [] = 0
+olds (steps.Both ∷ more) = suc (olds more)
+olds (steps.Old ∷ more) = suc (olds more)
+olds (steps.New ∷ more) = olds more
 
 abbrev pub news : List Step → ℕ
-news own = sum_by new_in own
+news [] = 0
+news (steps.Both ∷ more) = suc (news more)
+news (steps.Old ∷ more) = news more
+news (steps.New ∷ more) = suc (news more)
 
 -- one more, but for none
 abbrev pub one_more : ℕ → ℕ

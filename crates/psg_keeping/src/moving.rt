@@ -14,6 +14,7 @@ use std::alloc::{AllocError, Global};
 
 /// For each number of old tokens, from none to all, how many new ones there are up to the partner of the last paired
 /// one of them, and how many new ones there are.
+#[derive(Drop)]
 struct Afters {
     places: Seq<usize>,
     all: usize,
