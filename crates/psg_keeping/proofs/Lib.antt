@@ -1,3 +1,4 @@
 pub mod PairLaws
 pub mod RowLaws
+pub mod WholeLaws
 pub mod MoveLaws

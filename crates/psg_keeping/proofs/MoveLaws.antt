@@ -1,5 +1,5 @@
 -- Laws of the places of comments.
-use Rattle.std.proofs.Common.{◌≡◌, inl, inr, ℕ, zero, suc, ◌+◌, ◌-◌, ◌<◌, ◌≤◌, List, [], ◌∷◌, ◌++◌, length, get_or, refl, sym, ap, ◌∙◌, subst, append-nil, arith, length-append}
+use Rattle.std.proofs.Common.{◌≡◌, inl, inr, ℕ, zero, suc, ◌+◌, ◌-◌, ◌<◌, ◌≤◌, Bool, List, [], ◌∷◌, ◌++◌, length, get_or, refl, sym, ap, ◌∙◌, subst, append-nil, arith, length-append}
 use Rattle.std.specs.Prelude.{cond, map, max, replicate, reverse}
 use Rattle.std.proofs.lemmas.Bool.{cases_lt}
 use Rattle.std.proofs.lemmas.List.{get_or_append_left, get_or_push, reverse-append}
@@ -149,6 +149,7 @@ after_step p places places' steps.New seen seen' last last' a es el ep =
 
 -- ---- the comments keep their words
 
-pub moved_words : (low : ℕ) (own : List Step) (notes : List Note) → map words_of (moved low own notes) ≡ map words_of notes
-moved_words low own [] = refl
-moved_words low own (n ∷ notes) = ap (λ l. n.text ∷ l) (moved_words (max low (goes own n)) own notes)
+pub moved_words : (low : ℕ) (own : List Step) (lines : List Bool) (notes : List Note)
+    → map words_of (moved low own lines notes) ≡ map words_of notes
+moved_words low own lines [] = refl
+moved_words low own lines (n ∷ notes) = ap (λ l. n.text ∷ l) (moved_words (max low (goes own lines n)) own lines notes)

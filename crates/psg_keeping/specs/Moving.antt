@@ -1,5 +1,7 @@
 -- Where the comments of a text go in a new one.
-use Rattle.std.specs.Prelude.{ℕ, ◌≡◌, ◌≤◌, ◌+◌, ◌-◌, ◌==◌, max, cond, zero, suc, List, [], ◌∷◌, length, get_or, reverse}
+use Rattle.std.specs.Prelude.{ℕ, ◌≡◌, ◌≤◌, ◌+◌, ◌-◌, ◌==◌, max, cond, not, Bool, true, false, zero, suc, List, [], ◌∷◌}
+use Rattle.std.specs.Prelude.{length, get_or, drop, take, reverse}
+use Rattle.std.specs.List.{prefix_len}
 use Rattle.psg_commented.specs.declared.noting.Note.{Note}
 use Rattle.psg_keeping.specs.declared.pairing.Step.{Step}
 use Rattle.psg_keeping.specs.declared.pairing.Step.TheVariants as steps
@@ -35,20 +37,31 @@ after_partner (suc count) (steps.New ∷ more) = one_more (after_partner (suc co
 abbrev pub before_partner : ℕ → List Step → ℕ
 before_partner count own = news own - after_partner (olds own - count) (reverse own)
 
--- how many new tokens are before the comment, where no other comment is: one after a token on its line is after the
--- partner of the last paired token before it, and one on a line of its own before the partner of the first paired
--- token after it
-abbrev pub goes : List Step → Note → ℕ
-goes own n = cond n.trails (after_partner n.before own) (before_partner n.before own)
+-- how many of the places from `skip` on, and at most so many, are no ends of lines, up to the first that is one
+abbrev pub before_end : List Bool → ℕ → ℕ → ℕ
+before_end lines skip most = prefix_len not (take most (drop skip lines))
+
+-- the place of a comment between two places: one after a token on its line is at the first end of a line, and one on a
+-- line of its own at the last one, which is where it begins
+abbrev pub place_between : List Bool → Bool → ℕ → ℕ → ℕ
+place_between lines true from to = from + before_end lines from (to - from)
+place_between lines false from to = to - before_end (reverse lines) (length lines - 1 - to) (to - from)
+
+-- How many new tokens are before the comment, where no other comment is: between the partner of the last paired token
+-- before it and that of the first one after it. `lines` says for each number of new tokens whether a line ends after
+-- them.
+abbrev pub goes : List Step → List Bool → Note → ℕ
+goes own lines n = place_between lines n.trails (after_partner n.before own) (before_partner n.before own)
 
 -- the comment with so many tokens before it
 abbrev pub placed : ℕ → Note → Note
 placed count n = record { before = count; trails = n.trails; text = n.text }
 
 -- the comments beside the new tokens, each with `low` tokens before it at least, and none before the one before it
-abbrev pub moved : ℕ → List Step → List Note → List Note
-moved low own [] = []
-moved low own (n ∷ notes) = placed (max low (goes own n)) n ∷ moved (max low (goes own n)) own notes
+abbrev pub moved : ℕ → List Step → List Bool → List Note → List Note
+moved low own lines [] = []
+moved low own lines (n ∷ notes) =
+    placed (max low (goes own lines n)) n ∷ moved (max low (goes own lines n)) own lines notes
 
 -- how many new tokens there are up to the last partner after a step, where `seen` are up to its end
 abbrev pub last_of : Step → ℕ → ℕ → ℕ

@@ -1,5 +1,5 @@
 //! Files whose comments are kept.
-ghost use Rattle.std.specs.Prelude.{◌≡◌, ◌+◌, ◌≤◌, ◌≢◌, IfNone, IfOk, IfSome, List, None, OnErr, OnOk, ℕ, vec_len};
+ghost use Rattle.std.specs.Prelude.{◌≡◌, ◌+◌, ◌≤◌, IfNone, IfOk, IfSome, List, None, OnErr, OnOk, Some, ℕ, vec_len};
 ghost use Rattle.std.specs.FinMap as map;
 ghost use Rattle.std.specs.Option.{option_map};
 ghost use Rattle.psg_keeping.specs.Rules.{Opens, Writes, unmarked as unmarked_of};
@@ -29,7 +29,7 @@ pub struct Keeping<F> {
 
 /// The bytes that are given for a file, and what is known of it from then on.
 #[derive(Drop)]
-struct Opened {
+struct Given {
     given: Vec<u8>,
     known: Option<Known>,
 }
@@ -45,8 +45,8 @@ fn unmarked(bytes: &[u8]) -> &[u8]
 }
 
 /// Returns the bytes with a space for each byte of a comment, and the file as it is known then.
-fn blanked(alloc: Global, rule: &Rule, name: &str, bytes: &[u8]) -> Result<Opened, AllocError>
-    ensures { IfOk result (λ o. Opens (Some rule.now) name.now bytes.now o.given.items o.known) }
+fn blanked(alloc: Global, rule: &Rule, name: &str, bytes: &[u8]) -> Result<Given, AllocError>
+    ensures { IfOk result (λ g. Opens (Some rule.now) name.now bytes.now g.given.items g.known) }
 {
     let rest = unmarked(bytes);
     let Ok(text) = str::from_utf8(rest) else {
@@ -58,7 +58,7 @@ fn blanked(alloc: Global, rule: &Rule, name: &str, bytes: &[u8]) -> Result<Opene
     given.extend_from_slice(found.bytes.as_slice())?;
     let name = Txt::copy_of(alloc, name)?;
     let own = Vec::from_slice(alloc, rest)?;
-    Ok(Opened {
+    Ok(Given {
         given,
         known: Some(Known {
             name,
@@ -68,11 +68,11 @@ fn blanked(alloc: Global, rule: &Rule, name: &str, bytes: &[u8]) -> Result<Opene
 }
 
 /// Returns the bytes as they are, of a file of which nothing is known.
-fn as_they_are(alloc: Global, bytes: &[u8]) -> Result<Opened, AllocError>
-    ensures given { IfOk result (λ o. o.given.items ≡ bytes.now) }
-    ensures known { IfOk result (λ o. o.known ≡ None) }
+fn as_they_are(alloc: Global, bytes: &[u8]) -> Result<Given, AllocError>
+    ensures given { IfOk result (λ g. g.given.items ≡ bytes.now) }
+    ensures known { IfOk result (λ g. g.known ≡ None) }
 {
-    Ok(Opened {
+    Ok(Given {
         given: Vec::from_slice(alloc, bytes)?,
         known: None,
     })
@@ -84,8 +84,8 @@ fn opened(
     rule: &Option<Rule>,
     name: &str,
     bytes: &[u8],
-) -> Result<Opened, AllocError>
-    ensures { IfOk result (λ o. Opens rule.now name.now bytes.now o.given.items o.known) }
+) -> Result<Given, AllocError>
+    ensures { IfOk result (λ g. Opens rule.now name.now bytes.now g.given.items g.known) }
 {
     match rule {
         Some(rule) => blanked(alloc, rule, name, bytes),

@@ -1,8 +1,9 @@
 //! Where the comments of a text go in a new one.
-ghost use Rattle.std.specs.Prelude.{◌≡◌, ◌<◌, ◌++◌, IfOk, List, OnOk, length, map, replicate, reverse};
+ghost use Rattle.std.specs.Prelude.{◌≡◌, ◌<◌, ◌≤◌, ◌++◌, IfOk, List, OnOk, length, map, replicate, reverse};
 ghost use Rattle.psg_commented.specs.Keeping.{words_of};
-ghost use Rattle.psg_keeping.specs.Moving.{AreAfters, after_partner, goes as goes_of, last_of, moved as moved_of, news};
-ghost use Rattle.psg_keeping.specs.Moving.{placed as placed_of};
+ghost use Rattle.psg_keeping.specs.Moving.{AreAfters, after_partner, before_end as before_end_of, before_partner};
+ghost use Rattle.psg_keeping.specs.Moving.{goes as goes_of, last_of, moved as moved_of, news};
+ghost use Rattle.psg_keeping.specs.Moving.{place_between as place_between_of, placed as placed_of};
 ghost use Rattle.psg_keeping.specs.Rows.{old_in as old_in_of};
 ghost use Rattle.psg_keeping.specs.declared.pairing.Step.{Step as Plain};
 
@@ -15,7 +16,7 @@ use std::alloc::{AllocError, Global};
 /// For each number of old tokens, from none to all, how many new ones there are up to the partner of the last paired
 /// one of them, and how many new ones there are.
 #[derive(Drop)]
-struct Afters {
+struct Table {
     places: Seq<usize>,
     all: usize,
 }
@@ -42,7 +43,7 @@ fn push_place(places: &mut Vec<usize>, step: Step, place: usize) -> Result<(), A
 }
 
 /// Returns the places after partners, for the steps.
-fn afters(alloc: Global, steps: &[Step]) -> Result<Afters, AllocError>
+fn afters(alloc: Global, steps: &[Step]) -> Result<Table, AllocError>
     ensures places { IfOk result (λ a. AreAfters steps.now a.places) }
     ensures all { IfOk result (λ a. a.all ≡ news steps.now) }
 {
@@ -55,7 +56,7 @@ fn afters(alloc: Global, steps: &[Step]) -> Result<Afters, AllocError>
         last = last_after(*step, seen, last);
         push_place(&mut places, *step, last)?;
     }
-    Ok(Afters {
+    Ok(Table {
         places: Seq::of(places),
         all: seen,
     })
@@ -79,18 +80,51 @@ fn reversed(alloc: Global, steps: &[Step]) -> Result<Vec<Step>, AllocError>
     Ok(back)
 }
 
-/// Returns how many new tokens are before the comment, where no other comment is.
-fn goes(note: &Note, after: &[usize], before: &[usize], all: usize) -> usize
-    requires after { 0 < length after.now }
-    requires before { 0 < length before.now }
-    ensures { (steps : List Plain) → AreAfters steps after.now → AreAfters (reverse steps) before.now
-        → all ≡ news steps → result ≡ goes_of steps note.now }
+/// Returns the lines from the last one to the first one.
+fn backwards(alloc: Global, lines: &[bool]) -> Result<Vec<bool>, AllocError>
+    ensures { IfOk result (λ back. back.items ≡ reverse lines.now) }
 {
-    if note.trails {
-        return place_at(after, note.before);
+    let mut back = Vec::from_slice(alloc, lines)?;
+    back.reverse();
+    Ok(back)
+}
+
+/// Returns how many new tokens there are before the partner of the first paired one of the old tokens after so many.
+fn place_before(places: &[usize], count: usize, all: usize) -> usize
+    requires { 0 < length places.now }
+    ensures { (steps : List Plain) → AreAfters (reverse steps) places.now → all ≡ news steps
+        → result ≡ before_partner count steps }
+{
+    let left = (places.len() - 1).saturating_sub(count);
+    all.saturating_sub(place_at(places, left))
+}
+
+/// Returns how many of the lines at the beginning of the part do not end.
+fn before_end(lines: &[bool], skip: usize, most: usize) -> usize
+    ensures count { result ≡ before_end_of lines.now skip most }
+    ensures within { result ≤ most }
+{
+    let mut count = 0;
+    'line: while count < most && skip + count < lines.len() {
+        if lines[skip + count] {
+            return count;
+        }
+        count += 1;
     }
-    let left = (before.len() - 1).saturating_sub(note.before);
-    all.saturating_sub(place_at(before, left))
+    count
+}
+
+/// Returns the place between the two where a comment goes.
+fn place_between(lines: &[bool], back: &[bool], trails: bool, from: usize, to: usize) -> usize
+    requires { back.now ≡ reverse lines.now }
+    ensures { result ≡ place_between_of lines.now trails from to }
+{
+    let most = to.saturating_sub(from);
+    if trails {
+        return from + before_end(lines, from, most);
+    }
+    let skip = lines.len().saturating_sub(1).saturating_sub(to);
+    to - before_end(back, skip, most)
 }
 
 /// Returns the comment with so many tokens before it.
@@ -104,20 +138,34 @@ fn placed(alloc: Global, note: &Note, before: usize) -> Result<Note, AllocError>
     })
 }
 
-/// Returns the comments with as many tokens before them as the steps say. No comment is before the one before it.
-pub fn moved(alloc: Global, steps: &[Step], notes: &[Note]) -> Result<Vec<Note>, AllocError>
-    ensures moved { IfOk result (λ new. new.items ≡ moved_of 0 steps.now notes.now) }
+/// Returns a comment's place by the tables.
+fn goes(note: &Note, after: &[usize], before: &[usize], all: usize, lines: &[bool], back: &[bool]) -> usize
+    requires after { 0 < length after.now }
+    requires before { 0 < length before.now }
+    requires back { back.now ≡ reverse lines.now }
+    ensures { (steps : List Plain) → AreAfters steps after.now → AreAfters (reverse steps) before.now
+        → all ≡ news steps → result ≡ goes_of steps lines.now note.now }
+{
+    let from = place_at(after, note.before);
+    let to = place_before(before, note.before, all);
+    place_between(lines, back, note.trails, from, to)
+}
+
+/// Returns the comments with as many tokens before them as the steps say, by the lines of the new text. No comment is
+/// before the one before it.
+pub fn moved(alloc: Global, steps: &[Step], lines: &[bool], notes: &[Note]) -> Result<Vec<Note>, AllocError>
+    ensures moved { IfOk result (λ new. new.items ≡ moved_of 0 steps.now lines.now notes.now) }
     ensures words { IfOk result (λ new. map words_of new.items ≡ map words_of notes.now) }
 {
     let after = afters(alloc, steps)?;
-    let back = reversed(alloc, steps)?;
-    let before = afters(alloc, back.as_slice())?;
-    let places = after.places.as_slice();
-    let others = before.places.as_slice();
+    let turned = reversed(alloc, steps)?;
+    let before = afters(alloc, turned.as_slice())?;
+    let back = backwards(alloc, lines)?;
     let mut new = Vec::new(alloc);
     let mut low = 0;
     for note in notes {
-        low = low.max(goes(note, places, others, after.all));
+        let place = goes(note, after.places.as_slice(), before.places.as_slice(), after.all, lines, back.as_slice());
+        low = low.max(place);
         new.push(placed(alloc, note, low)?)?;
     }
     Ok(new)

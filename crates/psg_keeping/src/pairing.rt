@@ -27,7 +27,7 @@ fn common_front(old: &[Token], new: &[Token]) -> usize
     ensures apart { BeginApart (drop result old.now) (drop result new.now) }
 {
     let mut count = 0;
-    while count < old.len() && count < new.len() {
+    'same: while count < old.len() && count < new.len() {
         if !is_same(&old[count], &new[count]) {
             return count;
         }
@@ -43,7 +43,7 @@ fn common_back(old: &[Token], new: &[Token]) -> usize
     ensures new { result ≤ length new.now }
 {
     let mut count = 0;
-    while count < old.len() && count < new.len() {
+    'same: while count < old.len() && count < new.len() {
         if !is_same(&old[old.len() - 1 - count], &new[new.len() - 1 - count]) {
             return count;
         }

@@ -1,5 +1,5 @@
 //! A longest common subsequence of two lists, by a table of the lengths of those of their ends.
-ghost use Rattle.std.specs.Prelude.{◌≡◌, ◌<◌, ◌≤◌, ◌+◌, ◌*◌, ◌^◌, ◌⊎◌, IfOk, List, length};
+ghost use Rattle.std.specs.Prelude.{◌≡◌, ◌<◌, ◌≤◌, ◌+◌, ◌*◌, ◌^◌, ◌⊎◌, ◌∷◌, [], IfOk, List, get_or, length};
 ghost use Rattle.psg_keeping.specs.Pairing.{ArePairs, IsMost, most_cells};
 ghost use Rattle.psg_keeping.specs.Rows.{AreRows, IsBest, IsNext, IsRow, new_in as new_in_of, old_in as old_in_of};
 ghost use Rattle.psg_keeping.specs.Rows.{end_of, value_at};
@@ -121,7 +121,7 @@ fn traced(alloc: Global, old: &[Token], new: &[Token], rows: &[Seq<usize>]) -> R
     let mut steps = Vec::new(alloc);
     let mut own = old.len();
     let mut theirs = new.len();
-    while own > 0 && theirs > 0 {
+    'walk: while own > 0 && theirs > 0 {
         let token = &old[old.len() - own];
         let other = &new[new.len() - theirs];
         let without = value(rows, own - 1, theirs);

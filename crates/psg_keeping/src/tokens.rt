@@ -46,7 +46,7 @@ pub(crate) fn tokens_or_none(
 }
 
 /// Says whether the token is counted: it is no round bracket.
-fn is_counted(token: &Token) -> bool
+pub(crate) fn is_counted(token: &Token) -> bool
     ensures { result ≡ is_counted_of token.now }
 {
     match token {

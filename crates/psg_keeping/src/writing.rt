@@ -6,6 +6,7 @@ ghost use Rattle.psg_comments.specs.Fitting.{IsFit};
 ghost use Rattle.psg_keeping.specs.Writing.{AreMoved, IsKept};
 
 use crate::commenting::commented;
+use crate::lines::lines_of;
 use crate::moving::moved;
 use crate::pairing::alignment;
 use crate::tokens::{counted_in, tokens_or_none};
@@ -37,7 +38,8 @@ fn notes_moved(
     let before = counted_in(alloc, own.as_slice())?;
     let after = counted_in(alloc, shown.as_slice())?;
     let steps = alignment(alloc, before.as_slice(), after.as_slice())?;
-    let found = moved(alloc, steps.as_slice(), notes.as_slice())?;
+    let lines = lines_of(alloc, new.as_bytes(), shown.as_slice())?;
+    let found = moved(alloc, steps.as_slice(), lines.as_slice(), notes.as_slice())?;
     Ok(found)
 }
 
