@@ -1,4 +1,6 @@
 pub mod PairLaws
 pub mod RowLaws
+pub mod CellLaws
 pub mod WholeLaws
 pub mod MoveLaws
+pub mod LineLaws

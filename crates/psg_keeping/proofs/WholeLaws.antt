@@ -99,3 +99,16 @@ module _ (old new own other : List Token) (f b : ℕ) (c : IsCutUp old new own o
         (subst (λ l. IsMost (front ++ (own ++ back)) l result) (sym new_is)
         (subst (λ s. IsMost (front ++ (own ++ back)) (front ++ (other ++ back)) s) same
         (whole_most front own other back middle h most))))
+
+pub cut_by : (old new r1 r2 own other : List Token) (f b : ℕ) → r1 ≡ drop f old → r2 ≡ drop f new
+    → own ≡ take (length r1 - b) r1 → other ≡ take (length r2 - b) r2 → take f old ≡ take f new → end_of b r1 ≡ end_of b r2
+    → f ≤ length old → b ≤ length r1 → BeginApart (drop f old) (drop f new) → IsCutUp old new own other f b
+cut_by old new r1 r2 own other f b e1 e2 o1 o2 front back lo lb apart = record {
+  front = front;
+  back = ap (λ r. end_of b r) (sym e1) ∙ back ∙ ap (λ r. end_of b r) e2;
+  front_old = lo;
+  back_old = subst (λ r. b ≤ length r) e1 lb;
+  own_is = o1 ∙ ap (λ r. take (length r - b) r) e1;
+  other_is = o2 ∙ ap (λ r. take (length r - b) r) e2;
+  apart = apart;
+}

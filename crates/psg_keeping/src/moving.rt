@@ -1,5 +1,6 @@
 //! Where the comments of a text go in a new one.
-ghost use Rattle.std.specs.Prelude.{◌≡◌, ◌<◌, ◌≤◌, ◌++◌, IfOk, List, OnOk, length, map, replicate, reverse};
+ghost use Rattle.std.specs.Prelude.{◌≡◌, ◌<◌, ◌≤◌, ◌++◌, IfOk, List, OnOk, Some, length, map, replicate, reverse};
+ghost use Rattle.std.specs.Prelude.{slice_get};
 ghost use Rattle.psg_commented.specs.Keeping.{words_of};
 ghost use Rattle.psg_keeping.specs.Moving.{AreAfters, after_partner, before_end as before_end_of, before_partner};
 ghost use Rattle.psg_keeping.specs.Moving.{goes as goes_of, last_of, moved as moved_of, news};
@@ -42,6 +43,14 @@ fn push_place(places: &mut Vec<usize>, step: Step, place: usize) -> Result<(), A
     Ok(())
 }
 
+/// Returns the step at the place.
+fn step_at(steps: &[Step], place: usize) -> Step
+    requires { place < length steps.now }
+    ensures { slice_get steps.now place ≡ Some result }
+{
+    steps[place]
+}
+
 /// Returns the places after partners, for the steps.
 fn afters(alloc: Global, steps: &[Step]) -> Result<Table, AllocError>
     ensures places { IfOk result (λ a. AreAfters steps.now a.places) }
@@ -51,10 +60,11 @@ fn afters(alloc: Global, steps: &[Step]) -> Result<Table, AllocError>
     places.push(0)?;
     let mut seen = 0;
     let mut last = 0;
-    for step in steps {
-        seen += new_in(*step);
-        last = last_after(*step, seen, last);
-        push_place(&mut places, *step, last)?;
+    for place in 0..steps.len() {
+        let step = step_at(steps, place);
+        seen += new_in(step);
+        last = last_after(step, seen, last);
+        push_place(&mut places, step, last)?;
     }
     Ok(Table {
         places: Seq::of(places),
@@ -99,14 +109,22 @@ fn place_before(places: &[usize], count: usize, all: usize) -> usize
     all.saturating_sub(place_at(places, left))
 }
 
-/// Returns how many of the lines at the beginning of the part do not end.
+/// Says whether a line ends at the place.
+fn line_at(lines: &[bool], place: usize) -> bool
+    requires { place < length lines.now }
+    ensures { slice_get lines.now place ≡ Some result }
+{
+    lines[place]
+}
+
+/// Returns how many of the places from `skip` on, and at most so many, are before the first end of a line.
 fn before_end(lines: &[bool], skip: usize, most: usize) -> usize
     ensures count { result ≡ before_end_of lines.now skip most }
     ensures within { result ≤ most }
 {
     let mut count = 0;
     'line: while count < most && skip + count < lines.len() {
-        if lines[skip + count] {
+        if line_at(lines, skip + count) {
             return count;
         }
         count += 1;
