@@ -1,7 +1,6 @@
 -- Where the comments of a text go in a new one.
-use Rattle.std.specs.Prelude.{ℕ, ◌≡◌, ◌≤◌, ◌+◌, ◌-◌, ◌==◌, max, cond, not, Bool, true, false, zero, suc, List, [], ◌∷◌}
-use Rattle.std.specs.Prelude.{length, get_or, drop, take, reverse}
-use Rattle.std.specs.List.{prefix_len}
+use Rattle.std.specs.Prelude.{ℕ, ◌≡◌, ◌≤◌, ◌+◌, ◌-◌, ◌==◌, max, min, cond, Bool, true, false, zero, suc, List, [], ◌∷◌}
+use Rattle.std.specs.Prelude.{length, get_or, drop, take, reverse, position, unwrap_or}
 use Rattle.psg_commented.specs.declared.noting.Note.{Note}
 use Rattle.psg_keeping.specs.declared.pairing.Step.{Step}
 use Rattle.psg_keeping.specs.declared.pairing.Step.TheVariants as steps
@@ -37,15 +36,20 @@ after_partner (suc count) (steps.New ∷ more) = one_more (after_partner (suc co
 abbrev pub before_partner : ℕ → List Step → ℕ
 before_partner count own = news own - after_partner (olds own - count) (reverse own)
 
--- how many of the places from `skip` on, and at most so many, are no ends of lines, up to the first that is one
-abbrev pub before_end : List Bool → ℕ → ℕ → ℕ
-before_end lines skip most = prefix_len not (take most (drop skip lines))
+-- how far from the place `skip` the first end of a line is, where it is not farther than `most`, and 0 otherwise
+abbrev pub near_end : List Bool → ℕ → ℕ → ℕ
+near_end lines skip most = min (unwrap_or (position (λ line. line) (take (most + 1) (drop skip lines))) 0) most
 
--- the place of a comment between two places: one after a token on its line is at the first end of a line, and one on a
--- line of its own at the last one, which is where it begins
+-- where lines begin: at the beginning, and where the others end
+abbrev pub begins : List Bool → List Bool
+begins lines = true ∷ drop 1 lines
+
+-- the place of a comment between two places: one after a token on its line is at the first end of a line there, and
+-- one on a line of its own at the last beginning of a line; where there is none, at the first of the places, and at
+-- the last
 abbrev pub place_between : List Bool → Bool → ℕ → ℕ → ℕ
-place_between lines true from to = from + before_end lines from (to - from)
-place_between lines false from to = to - before_end (reverse lines) (length lines - 1 - to) (to - from)
+place_between lines true from to = from + near_end lines from (to - from)
+place_between lines false from to = to - near_end (reverse (begins lines)) (length lines - 1 - to) (to - from)
 
 -- How many new tokens are before the comment, where no other comment is: between the partner of the last paired token
 -- before it and that of the first one after it. `lines` says for each number of new tokens whether a line ends after

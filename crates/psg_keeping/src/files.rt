@@ -46,7 +46,7 @@ fn unmarked(bytes: &[u8]) -> &[u8]
 
 /// Returns the bytes with a space for each byte of a comment, and the file as it is known then.
 fn blanked(alloc: Global, rule: &Rule, name: &str, bytes: &[u8]) -> Result<Given, AllocError>
-    ensures { IfOk result (λ g. Opens (Some rule.now) name.now bytes.now g.given.items g.known) }
+    ensures { IfOk result (λ g. Opens name.now bytes.now (Some rule.now) g.given.items g.known) }
 {
     let rest = unmarked(bytes);
     let Ok(text) = str::from_utf8(rest) else {
@@ -85,7 +85,7 @@ fn opened(
     name: &str,
     bytes: &[u8],
 ) -> Result<Given, AllocError>
-    ensures { IfOk result (λ g. Opens rule.now name.now bytes.now g.given.items g.known) }
+    ensures { IfOk result (λ g. Opens name.now bytes.now rule.now g.given.items g.known) }
 {
     match rule {
         Some(rule) => blanked(alloc, rule, name, bytes),
@@ -148,7 +148,7 @@ impl<F: Files> Keeping<F> {
     pub fn open(&mut self, alloc: Global, name: &str, limit: usize) -> Result<Vec<u8>, ReadStop>
         ensures opens { IfOk result (λ given. (read : List ℕ) × IfSome (F.holds self.old.files)
             (λ held. read ≡ front_of limit (bytes_of held name.now))
-            × Opens self.old.rule name.now read given.items self.new.known) }
+            × Opens name.now read self.old.rule given.items self.new.known) }
         ensures rule { self.new.rule ≡ self.old.rule }
         ensures holds { F.holds self.new.files ≡ F.holds self.old.files }
         ensures known { OnErr result (self.new.known ≡ self.old.known) }

@@ -1,9 +1,9 @@
 //! Where the comments of a text go in a new one.
-ghost use Rattle.std.specs.Prelude.{◌≡◌, ◌<◌, ◌≤◌, ◌++◌, IfOk, List, OnOk, Some, length, map, replicate, reverse};
-ghost use Rattle.std.specs.Prelude.{slice_get};
+ghost use Rattle.std.specs.Prelude.{◌≡◌, ◌<◌, ◌≤◌, ◌+◌, ◌++◌, IfOk, List, OnOk, Some, drop, length, map, position};
+ghost use Rattle.std.specs.Prelude.{replicate, reverse, slice_get, take};
 ghost use Rattle.psg_commented.specs.Keeping.{words_of};
-ghost use Rattle.psg_keeping.specs.Moving.{AreAfters, after_partner, before_end as before_end_of, before_partner};
-ghost use Rattle.psg_keeping.specs.Moving.{goes as goes_of, last_of, moved as moved_of, news};
+ghost use Rattle.psg_keeping.specs.Moving.{AreAfters, after_partner, before_partner, begins};
+ghost use Rattle.psg_keeping.specs.Moving.{goes as goes_of, last_of, moved as moved_of, near_end as near_end_of, news};
 ghost use Rattle.psg_keeping.specs.Moving.{place_between as place_between_of, placed as placed_of};
 ghost use Rattle.psg_keeping.specs.Rows.{old_in as old_in_of};
 ghost use Rattle.psg_keeping.specs.declared.pairing.Step.{Step as Plain};
@@ -90,11 +90,15 @@ fn reversed(alloc: Global, steps: &[Step]) -> Result<Vec<Step>, AllocError>
     Ok(back)
 }
 
-/// Returns the lines from the last one to the first one.
+/// Says from the last place to the first one whether a line begins there.
 fn backwards(alloc: Global, lines: &[bool]) -> Result<Vec<bool>, AllocError>
-    ensures { IfOk result (λ back. back.items ≡ reverse lines.now) }
+    ensures { IfOk result (λ back. back.items ≡ reverse (begins lines.now)) }
 {
-    let mut back = Vec::from_slice(alloc, lines)?;
+    let mut back = Vec::new(alloc);
+    back.push(true)?;
+    if let Some((_, rest)) = lines.split_first() {
+        back.extend_from_slice(rest)?;
+    }
     back.reverse();
     Ok(back)
 }
@@ -109,40 +113,48 @@ fn place_before(places: &[usize], count: usize, all: usize) -> usize
     all.saturating_sub(place_at(places, left))
 }
 
-/// Says whether a line ends at the place.
-fn line_at(lines: &[bool], place: usize) -> bool
-    requires { place < length lines.now }
-    ensures { slice_get lines.now place ≡ Some result }
+/// Returns the lines from `skip` on, and at most one more than `most`.
+fn part_of(lines: &[bool], skip: usize, most: usize) -> &[bool]
+    ensures { result.now ≡ take (most + 1) (drop skip lines.now) }
 {
-    lines[place]
+    if skip >= lines.len() {
+        return &[];
+    }
+    let (_, rest) = lines.split_at(skip);
+    if most >= rest.len() {
+        return rest;
+    }
+    let (part, _) = rest.split_at(most + 1);
+    part
 }
 
-/// Returns how many of the places from `skip` on, and at most so many, are before the first end of a line.
-fn before_end(lines: &[bool], skip: usize, most: usize) -> usize
-    ensures count { result ≡ before_end_of lines.now skip most }
+/// Returns the first place at which a line ends, if there is one.
+fn first_end(lines: &[bool]) -> Option<usize>
+    ensures { result ≡ position (λ line. line) lines.now }
+{
+    lines.iter().position(|line| *line)
+}
+
+/// Returns how far from `skip` the first end of a line is, where it is not farther than `most`, and 0 otherwise.
+fn near_end(lines: &[bool], skip: usize, most: usize) -> usize
+    ensures count { result ≡ near_end_of lines.now skip most }
     ensures within { result ≤ most }
 {
-    let mut count = 0;
-    'line: while count < most && skip + count < lines.len() {
-        if line_at(lines, skip + count) {
-            return count;
-        }
-        count += 1;
-    }
-    count
+    let near = first_end(part_of(lines, skip, most)).unwrap_or(0);
+    near.min(most)
 }
 
 /// Returns the place between the two where a comment goes.
 fn place_between(lines: &[bool], back: &[bool], trails: bool, from: usize, to: usize) -> usize
-    requires { back.now ≡ reverse lines.now }
+    requires { back.now ≡ reverse (begins lines.now) }
     ensures { result ≡ place_between_of lines.now trails from to }
 {
     let most = to.saturating_sub(from);
     if trails {
-        return from + before_end(lines, from, most);
+        return from + near_end(lines, from, most);
     }
     let skip = lines.len().saturating_sub(1).saturating_sub(to);
-    to - before_end(back, skip, most)
+    to - near_end(back, skip, most)
 }
 
 /// Returns the comment with so many tokens before it.
@@ -160,7 +172,7 @@ fn placed(alloc: Global, note: &Note, before: usize) -> Result<Note, AllocError>
 fn goes(note: &Note, after: &[usize], before: &[usize], all: usize, lines: &[bool], back: &[bool]) -> usize
     requires after { 0 < length after.now }
     requires before { 0 < length before.now }
-    requires back { back.now ≡ reverse lines.now }
+    requires back { back.now ≡ reverse (begins lines.now) }
     ensures { (steps : List Plain) → AreAfters steps after.now → AreAfters (reverse steps) before.now
         → all ≡ news steps → result ≡ goes_of steps lines.now note.now }
 {

@@ -59,6 +59,12 @@ fn comments_are_kept(rt: HostRuntime) -> Result<(), Fail> {
             "2 + 3 + 4;\n1 < 7\n",
             "// cost\n2 + 3 + // apples\n  4; // pears\n1 < 7 // cheap\n",
         ),
+        // a token after a comment within a statement is another one
+        (
+            sums,
+            "2 + 3 + 5;\n1 < 2\n",
+            "// cost\n2 + 3 + // apples\n  5; // pears\n1 < 2 // cheap\n",
+        ),
         // a statement less
         (
             sums,
@@ -79,6 +85,7 @@ fn comments_are_kept(rt: HostRuntime) -> Result<(), Fail> {
         ),
         // the program is gone
         ("a // one\n", "b\n", "b // one\n"),
+        ("// one\na\n", "b\n", "// one\nb\n"),
         // no comments
         ("a\n", "b\n", "b\n"),
         // after the last token
