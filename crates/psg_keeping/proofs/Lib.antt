@@ -4,3 +4,4 @@ pub mod CellLaws
 pub mod WholeLaws
 pub mod MoveLaws
 pub mod LineLaws
+pub mod KeepLaws

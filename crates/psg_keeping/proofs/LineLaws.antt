@@ -1,28 +1,27 @@
 -- Laws of the places between lines, and of tables that are read.
-use Rattle.std.proofs.Common.{◌≡◌, inl, inr, ℕ, zero, suc, ◌+◌, ◌-◌, ◌<◌, ◌≤◌, ◌⊎◌, Bool, true, false, List, [], ◌∷◌, ◌++◌, length, take, drop, get_or, refl, sym, ap, ◌∙◌, subst, Some, arith}
-use Rattle.std.specs.Prelude.{cond, min, not, reverse, slice_get}
-use Rattle.std.specs.List.{prefix_len}
+use Rattle.std.proofs.Common.{◌≡◌, inl, inr, ℕ, ◌+◌, ◌-◌, ◌<◌, ◌≤◌, Bool, true, false, List, [], ◌∷◌, ◌++◌, length, take, get_or, sym, ap, ◌∙◌, subst, Some, arith}
+use Rattle.std.specs.Prelude.{◌||◌, min, nat_le, reverse, slice_get}
 use Rattle.std.proofs.lemmas.Bool.{cases_lt}
-use Rattle.std.proofs.lemmas.List.{drop_all, drop_more, take_more}
+use Rattle.std.proofs.lemmas.List.{take_more}
 use Rattle.std.proofs.lemmas.Option.{get_or_from_slice_get, slice_get_within}
 use Rattle.psg_keeping.specs.declared.pairing.Step.{Step}
-use Rattle.psg_keeping.specs.Moving.{AreAfters, after_partner, before_partner, begins, near_end, news, olds, place_between}
+use Rattle.psg_keeping.specs.Moving.{AreAfters, after_partner, before_partner, is_paired, is_paired_next, near_end, news, olds, place_between}
 use Rattle.psg_keeping.specs.Rows.{new_in, old_in}
 use Rattle.psg_keeping.specs.Moving.{last_of}
 use Rattle.std.specs.Prelude.{replicate}
 use Rattle.psg_keeping.proofs.MoveLaws.{IsAfter, after_beyond, after_step, news_within, olds_reverse}
 
-pub between_trailing : (lines : List Bool) (trails : Bool) (from to most k : ℕ) → trails ≡ true → most ≡ to - from
-    → k ≡ near_end lines from most → from + k ≡ place_between lines trails from to
-between_trailing lines trails from to most k t m e =
+pub between_early : (lines : List Bool) (late : Bool) (from to most k : ℕ) → late ≡ false → most ≡ to - from
+    → k ≡ near_end lines from most → from + k ≡ place_between lines late from to
+between_early lines late from to most k t m e =
     ap (λ n. from + n) (e ∙ ap (λ n. near_end lines from n) m) ∙ sym (ap (λ b. place_between lines b from to) t)
 
-pub between_own : (lines back : List Bool) (trails : Bool) (from to most skip k : ℕ) → trails ≡ false
-    → back ≡ reverse (begins lines) → most ≡ to - from → skip ≡ length lines - 1 - to → k ≡ near_end back skip most
-    → to - k ≡ place_between lines trails from to
-between_own lines back trails from to most skip k t b m s e =
-    ap (λ n. to - n) (e ∙ ap (λ z. near_end z skip most) b ∙ ap (λ n. near_end (reverse (begins lines)) n most) s
-    ∙ ap (λ n. near_end (reverse (begins lines)) (length lines - 1 - to) n) m)
+pub between_late : (lines back : List Bool) (late : Bool) (from to most skip k : ℕ) → late ≡ true
+    → back ≡ reverse lines → most ≡ to - from → skip ≡ length lines - 1 - to → k ≡ near_end back skip most
+    → to - k ≡ place_between lines late from to
+between_late lines back late from to most skip k t b m s e =
+    ap (λ n. to - n) (e ∙ ap (λ z. near_end z skip most) b ∙ ap (λ n. near_end (reverse lines) n most) s
+    ∙ ap (λ n. near_end (reverse lines) (length lines - 1 - to) n) m)
     ∙ sym (ap (λ z. place_between lines z from to) t)
 
 -- ---- the tables
@@ -43,6 +42,14 @@ pub before_is : (own : List Step) (places : List ℕ) (count left r all : ℕ) �
 before_is own places count left r all a n e v =
     let same : left ≡ olds own - count = omega (arith, e, a.size, olds_reverse own) in
     ap (λ k. k - r) n ∙ ap (λ k. news own - k) (v ∙ ap (λ k. after_partner k (reverse own)) same)
+
+pub next_is : (own : List Step) (places : List ℕ) (count left all : ℕ) (paired : Bool) → AreAfters (reverse own) places
+    → all ≡ length places - 1 → left ≡ all - count → paired ≡ is_paired left (reverse own)
+    → (paired || nat_le all count) ≡ is_paired_next count own
+next_is own places count left all paired a n l e =
+    let size : all ≡ olds own = omega (arith, n, a.size, olds_reverse own) in
+    ap (λ p. p || nat_le all count) (e ∙ ap (λ k. is_paired k (reverse own)) l)
+    ∙ ap (λ k. is_paired (k - count) (reverse own) || nat_le k count) size
 
 -- ---- the walk along the steps
 

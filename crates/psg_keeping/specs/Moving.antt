@@ -1,5 +1,5 @@
 -- Where the comments of a text go in a new one.
-use Rattle.std.specs.Prelude.{ℕ, ◌≡◌, ◌≤◌, ◌+◌, ◌-◌, ◌==◌, max, min, cond, Bool, true, false, zero, suc, List, [], ◌∷◌}
+use Rattle.std.specs.Prelude.{ℕ, ◌≡◌, ◌≤◌, ◌+◌, ◌-◌, ◌==◌, ◌||◌, max, min, nat_le, nat_lt, not, cond, Bool, true, false, zero, suc, List, [], ◌∷◌}
 use Rattle.std.specs.Prelude.{length, get_or, drop, take, reverse, position, unwrap_or}
 use Rattle.psg_commented.specs.declared.noting.Note.{Note}
 use Rattle.psg_keeping.specs.declared.pairing.Step.{Step}
@@ -40,22 +40,31 @@ before_partner count own = news own - after_partner (olds own - count) (reverse 
 abbrev pub near_end : List Bool → ℕ → ℕ → ℕ
 near_end lines skip most = min (unwrap_or (position (λ line. line) (take (most + 1) (drop skip lines))) 0) most
 
--- where lines begin: at the beginning, and where the others end
-abbrev pub begins : List Bool → List Bool
-begins lines = true ∷ drop 1 lines
+-- the last of the first `count` old tokens is paired
+abbrev pub is_paired : ℕ → List Step → Bool
+is_paired count own = nat_lt (after_partner (count - 1) own) (after_partner count own)
 
--- the place of a comment between two places: one after a token on its line is at the first end of a line there, and
--- one on a line of its own at the last beginning of a line; where there is none, at the first of the places, and at
--- the last
+-- the first of the old tokens after the first `count` is paired, or there is none: the same, seen from the end
+abbrev pub is_paired_next : ℕ → List Step → Bool
+is_paired_next count own = is_paired (olds own - count) (reverse own) || nat_le (olds own) count
+
+-- a place between two places: the last one there at which a line ends, or the first one; where there is none, the last
+-- of the places, or the first one
 abbrev pub place_between : List Bool → Bool → ℕ → ℕ → ℕ
-place_between lines true from to = from + near_end lines from (to - from)
-place_between lines false from to = to - near_end (reverse (begins lines)) (length lines - 1 - to) (to - from)
+place_between lines true from to = to - near_end (reverse lines) (length lines - 1 - to) (to - from)
+place_between lines false from to = from + near_end lines from (to - from)
+
+-- the comment goes with the tokens after it: it is one on a line of its own, and the next token is paired or there is
+-- none; or one after a token on its line that is not paired
+abbrev pub is_late : List Step → Note → Bool
+is_late own n = cond n.trails (not (is_paired n.before own)) (is_paired_next n.before own)
 
 -- How many new tokens are before the comment, where no other comment is: between the partner of the last paired token
 -- before it and that of the first one after it. `lines` says for each number of new tokens whether a line ends after
--- them.
+-- them; one does before the first token.
 abbrev pub goes : List Step → List Bool → Note → ℕ
-goes own lines n = place_between lines n.trails (after_partner n.before own) (before_partner n.before own)
+goes own lines n =
+    place_between lines (is_late own n) (after_partner n.before own) (before_partner n.before own)
 
 -- the comment with so many tokens before it
 abbrev pub placed : ℕ → Note → Note

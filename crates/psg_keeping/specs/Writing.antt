@@ -1,5 +1,5 @@
 -- The text that is written for a new text of a program, with the comments of the old one.
-use Rattle.std.specs.Prelude.{ℕ, ◌≡◌, ◌⊎◌, ◌++◌, cond, Bool, true, List, [], ◌∷◌, chars, IsUtf8}
+use Rattle.std.specs.Prelude.{ℕ, ◌≡◌, ◌⊎◌, ◌++◌, ◌==◌, ◌||◌, cond, Bool, true, List, [], ◌∷◌, chars, IsUtf8}
 use Rattle.std.specs.List.{flat_map}
 use Rattle.psg_terms.specs.Names.{Name}
 use Rattle.psg_lexis.specs.Tokens.{HasTokens}
@@ -25,12 +25,13 @@ counted_of ts = flat_map counted_one ts
 -- whether a line ends between the last token that is counted, which ends at the byte `from`, and the token, if it is
 -- counted too; and where the last counted token then ends
 abbrev pub line_before : List ℕ → ℕ → Spanned → List Bool
-line_before text from t = cond (counts t) (has_feed (bytes_between text from t.start) ∷ []) []
+line_before text from t =
+    cond (counts t) (((from == 0) || has_feed (bytes_between text from t.start)) ∷ []) []
 
 abbrev pub end_after : ℕ → Spanned → ℕ
 end_after from t = cond (counts t) t.end from
 
--- for each number of counted tokens, whether a line ends after them; after all a line ends
+-- for each number of counted tokens, whether a line ends after them: after none and after all one does
 abbrev pub lines_from : List ℕ → ℕ → List Spanned → List Bool
 lines_from text from [] = true ∷ []
 lines_from text from (t ∷ ts) = line_before text from t ++ lines_from text (end_after from t) ts

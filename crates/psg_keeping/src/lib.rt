@@ -10,8 +10,8 @@
 //! `open` reads a program text and gives it with a space for each byte of a comment. A replacement of that file writes
 //! the new text with the comments of the old one. The tokens of both texts are paired by a longest common subsequence,
 //! round brackets not counted. A comment stays between the partner of the last paired token before it and that of the
-//! first one after it: there one after a token on its line goes to the first end of a line, if there is one, and one on a
-//! line of its own to the last beginning of a line.
+//! first one after it. There one after a token on its line goes with that token, and one on a line of its own with the
+//! next token, where these are paired; and to an end of a line, if there is one.
 #![tactic(auto)]
 
 mod commenting;

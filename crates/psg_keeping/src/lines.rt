@@ -1,5 +1,5 @@
 //! Where the lines of a text end among its tokens.
-ghost use Rattle.std.specs.Prelude.{◌≡◌, ◌++◌, IfOk, OnOk, drop, take};
+ghost use Rattle.std.specs.Prelude.{◌≡◌, ◌==◌, ◌||◌, ◌++◌, IfOk, OnOk, drop, take};
 ghost use Rattle.psg_commented.specs.Noting.{bytes_between, has_feed as has_feed_of};
 ghost use Rattle.psg_keeping.specs.Writing.{end_after as end_after_of, line_before, lines_of as lines_of_text};
 
@@ -38,12 +38,19 @@ fn has_feed(text: &[u8], from: usize, to: usize) -> bool
     part.iter().any(|byte| *byte == b'\n')
 }
 
+/// Says whether a line ends between the places, or begins with the text.
+fn is_line(text: &[u8], from: usize, to: usize) -> bool
+    ensures { result ≡ ((from == 0) || has_feed_of (bytes_between text.now from to)) }
+{
+    from == 0 || has_feed(text, from, to)
+}
+
 /// Puts at the end whether a line ends before the token, if the token is counted.
 fn push_line(lines: &mut Vec<bool>, text: &[u8], from: usize, token: &Spanned) -> Result<(), AllocError>
     ensures { OnOk result (lines.new.items ≡ lines.old.items ++ line_before text.now from token.now) }
 {
     if is_counted(&token.token) {
-        lines.push(has_feed(text, from, token.start))?;
+        lines.push(is_line(text, from, token.start))?;
     }
     Ok(())
 }

@@ -2,7 +2,9 @@
 ghost use Rattle.std.specs.Prelude.{◌≡◌, ◌<◌, ◌≤◌, ◌+◌, ◌++◌, IfOk, List, OnOk, Some, drop, length, map, position};
 ghost use Rattle.std.specs.Prelude.{replicate, reverse, slice_get, take};
 ghost use Rattle.psg_commented.specs.Keeping.{words_of};
-ghost use Rattle.psg_keeping.specs.Moving.{AreAfters, after_partner, before_partner, begins};
+ghost use Rattle.psg_keeping.specs.Moving.{AreAfters, after_partner, before_partner};
+ghost use Rattle.psg_keeping.specs.Moving.{is_late as is_late_of, is_paired as is_paired_of};
+ghost use Rattle.psg_keeping.specs.Moving.{is_paired_next as is_paired_next_of};
 ghost use Rattle.psg_keeping.specs.Moving.{goes as goes_of, last_of, moved as moved_of, near_end as near_end_of, news};
 ghost use Rattle.psg_keeping.specs.Moving.{place_between as place_between_of, placed as placed_of};
 ghost use Rattle.psg_keeping.specs.Rows.{old_in as old_in_of};
@@ -90,17 +92,31 @@ fn reversed(alloc: Global, steps: &[Step]) -> Result<Vec<Step>, AllocError>
     Ok(back)
 }
 
-/// Says from the last place to the first one whether a line begins there.
+/// Returns the lines from the last one to the first one.
 fn backwards(alloc: Global, lines: &[bool]) -> Result<Vec<bool>, AllocError>
-    ensures { IfOk result (λ back. back.items ≡ reverse (begins lines.now)) }
+    ensures { IfOk result (λ back. back.items ≡ reverse lines.now) }
 {
-    let mut back = Vec::new(alloc);
-    back.push(true)?;
-    if let Some((_, rest)) = lines.split_first() {
-        back.extend_from_slice(rest)?;
-    }
+    let mut back = Vec::from_slice(alloc, lines)?;
     back.reverse();
     Ok(back)
+}
+
+/// Says whether the last of so many old tokens is paired.
+fn is_paired(places: &[usize], count: usize) -> bool
+    requires { 0 < length places.now }
+    ensures { (steps : List Plain) → AreAfters steps places.now → result ≡ is_paired_of count steps }
+{
+    place_at(places, count.saturating_sub(1)) < place_at(places, count)
+}
+
+/// Says whether the first of the old tokens after so many is paired, or there is none.
+fn is_paired_next(places: &[usize], count: usize) -> bool
+    requires { 0 < length places.now }
+    ensures { (steps : List Plain) → AreAfters (reverse steps) places.now → result ≡ is_paired_next_of count steps }
+{
+    let all = places.len() - 1;
+    let paired = is_paired(places, all.saturating_sub(count));
+    paired || all <= count
 }
 
 /// Returns how many new tokens there are before the partner of the first paired one of the old tokens after so many.
@@ -145,16 +161,29 @@ fn near_end(lines: &[bool], skip: usize, most: usize) -> usize
 }
 
 /// Returns the place between the two where a comment goes.
-fn place_between(lines: &[bool], back: &[bool], trails: bool, from: usize, to: usize) -> usize
-    requires { back.now ≡ reverse (begins lines.now) }
-    ensures { result ≡ place_between_of lines.now trails from to }
+fn place_between(lines: &[bool], back: &[bool], late: bool, from: usize, to: usize) -> usize
+    requires { back.now ≡ reverse lines.now }
+    ensures { result ≡ place_between_of lines.now late from to }
 {
     let most = to.saturating_sub(from);
-    if trails {
-        return from + near_end(lines, from, most);
+    if late {
+        let skip = lines.len().saturating_sub(1).saturating_sub(to);
+        return to - near_end(back, skip, most);
     }
-    let skip = lines.len().saturating_sub(1).saturating_sub(to);
-    to - near_end(back, skip, most)
+    from + near_end(lines, from, most)
+}
+
+/// Says whether the comment goes with the tokens after it.
+fn is_late(note: &Note, after: &[usize], before: &[usize]) -> bool
+    requires after { 0 < length after.now }
+    requires before { 0 < length before.now }
+    ensures { (steps : List Plain) → AreAfters steps after.now → AreAfters (reverse steps) before.now
+        → result ≡ is_late_of steps note.now }
+{
+    if note.trails {
+        return !is_paired(after, note.before);
+    }
+    is_paired_next(before, note.before)
 }
 
 /// Returns the comment with so many tokens before it.
@@ -172,13 +201,14 @@ fn placed(alloc: Global, note: &Note, before: usize) -> Result<Note, AllocError>
 fn goes(note: &Note, after: &[usize], before: &[usize], all: usize, lines: &[bool], back: &[bool]) -> usize
     requires after { 0 < length after.now }
     requires before { 0 < length before.now }
-    requires back { back.now ≡ reverse (begins lines.now) }
+    requires back { back.now ≡ reverse lines.now }
     ensures { (steps : List Plain) → AreAfters steps after.now → AreAfters (reverse steps) before.now
         → all ≡ news steps → result ≡ goes_of steps lines.now note.now }
 {
     let from = place_at(after, note.before);
     let to = place_before(before, note.before, all);
-    place_between(lines, back, note.trails, from, to)
+    let late = is_late(note, after, before);
+    place_between(lines, back, late, from, to)
 }
 
 /// Returns the comments with as many tokens before them as the steps say, by the lines of the new text. No comment is

@@ -66,7 +66,8 @@ pub(crate) fn kept_in(
     ensures { IfOk result (λ bytes. IsKept lexis.now token.now old.now new.now bytes.items) }
 {
     let blanked = blank_comments(alloc, lexis, token, old)?;
-    if blanked.comments.is_empty() {
+    let comments = blanked.comments.as_slice();
+    if comments.is_empty() {
         let bytes = Vec::from_slice(alloc, new.as_bytes())?;
         return Ok(bytes);
     }

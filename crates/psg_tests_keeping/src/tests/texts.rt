@@ -86,6 +86,12 @@ fn comments_are_kept(rt: HostRuntime) -> Result<(), Fail> {
         // the program is gone
         ("a // one\n", "b\n", "b // one\n"),
         ("// one\na\n", "b\n", "// one\nb\n"),
+        // a statement without a separator is another one
+        (
+            "a // one\n// two\nb := 2 // second\n// three\nc\n",
+            "a\n1 + 3\nc\n",
+            "a // one\n// two\n1 + 3 // second\n// three\nc\n",
+        ),
         // no comments
         ("a\n", "b\n", "b\n"),
         // after the last token
