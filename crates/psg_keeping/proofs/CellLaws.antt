@@ -25,8 +25,12 @@ best_other t u xs ys m n r other e a b = elim (cases_lt m n) [
 pub cell_small : (old new : List Token) (row : List ℕ) (n : ℕ) → IsRow old new row → n < length new
     → get_or row n 0 + 1 ≤ length new
 cell_small old new row n r l =
-    omega (arith, l, best_within old (end_of n new) (get_or row n 0) (r.best n (omega (arith, l))),
-    length-end new n (omega (arith, l)))
+    omega (
+      arith,
+      l,
+      best_within old (end_of n new) (get_or row n 0) (r.best n (omega (arith, l))),
+      length-end new n (omega (arith, l)),
+    )
 
 -- the next cell of a row
 pub cell_next : (t u : Token) (old new : List Token) (row next : List ℕ) (n v : ℕ) → IsRow old new row

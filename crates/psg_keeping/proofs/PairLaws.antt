@@ -130,8 +130,11 @@ module _ (t : Token) (xs ys : List Token) (n : ℕ) (b : IsBest xs ys n) where
   most_both : (old new : List Token) (s : List Step) → ArePairs old new s → old ≡ t ∷ xs → new ≡ t ∷ ys → pairs s ≤ n + 1
   most_both _ _ _ ends e f = absurd (no_cons t xs e)
   most_both _ _ _ (both a old new more h) e f =
-      omega (arith, b.most more (subst (λ zs. ArePairs xs zs more) (tail_is a t new ys f)
-      (subst (λ zs. ArePairs zs new more) (tail_is a t old xs e) h)))
+      omega (
+        arith,
+        b.most more (subst (λ zs. ArePairs xs zs more) (tail_is a t new ys f)
+            (subst (λ zs. ArePairs zs new more) (tail_is a t old xs e) h)),
+      )
   most_both _ _ _ (old_alone a old new more h) e f =
       let r = without_new xs new more (subst (λ zs. ArePairs zs new more) (tail_is a t old xs e) h) t ys f in
       omega (arith, r.2, b.most r.0 r.1)
@@ -189,7 +192,7 @@ without_last t (x ∷ xs) (y ∷ ys) _ _ _ (both a old new more h) e f =
     let r = without_last t xs ys old new more h (tail_is a x old (xs ++ t ∷ []) e) (tail_is a y new (ys ++ t ∷ []) f) in (
       steps.Both ∷ r.0,
       subst (λ z. ArePairs (x ∷ xs) (z ∷ ys) (steps.Both ∷ r.0))
-      (sym (head_is a x old (xs ++ t ∷ []) e) ∙ head_is a y new (ys ++ t ∷ []) f) (both x xs ys r.0 r.1),
+          (sym (head_is a x old (xs ++ t ∷ []) e) ∙ head_is a y new (ys ++ t ∷ []) f) (both x xs ys r.0 r.1),
       omega (arith, r.2),
     )
 without_last t [] ys _ _ _ (old_alone a old new more h) e f =
@@ -272,5 +275,10 @@ whole_most front own other back middle h most =
     (length front + (pairs middle + length back))
     (best_front front (own ++ back) (other ++ back) (pairs middle + length back)
     (best_back own other back (pairs middle) (best_of own other middle h most)))
-    (omega (arith, pairs-append (replicate (length front) steps.Both) (middle ++ replicate (length back) steps.Both),
-    pairs-append middle (replicate (length back) steps.Both), pairs-boths (length front), pairs-boths (length back)))
+    (omega (
+      arith,
+      pairs-append (replicate (length front) steps.Both) (middle ++ replicate (length back) steps.Both),
+      pairs-append middle (replicate (length back) steps.Both),
+      pairs-boths (length front),
+      pairs-boths (length back),
+    ))

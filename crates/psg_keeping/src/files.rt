@@ -79,12 +79,7 @@ fn as_they_are(alloc: Global, bytes: &[u8]) -> Result<Given, AllocError>
 }
 
 /// Returns what is given for the bytes of the file, and the file as it is known then.
-fn opened(
-    alloc: Global,
-    rule: &Option<Rule>,
-    name: &str,
-    bytes: &[u8],
-) -> Result<Given, AllocError>
+fn opened(alloc: Global, rule: &Option<Rule>, name: &str, bytes: &[u8]) -> Result<Given, AllocError>
     ensures { IfOk result (λ g. Opens name.now bytes.now rule.now g.given.items g.known) }
 {
     match rule {

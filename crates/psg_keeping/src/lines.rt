@@ -46,7 +46,12 @@ fn is_line(text: &[u8], from: usize, to: usize) -> bool
 }
 
 /// Puts at the end whether a line ends before the token, if the token is counted.
-fn push_line(lines: &mut Vec<bool>, text: &[u8], from: usize, token: &Spanned) -> Result<(), AllocError>
+fn push_line(
+    lines: &mut Vec<bool>,
+    text: &[u8],
+    from: usize,
+    token: &Spanned,
+) -> Result<(), AllocError>
     ensures { OnOk result (lines.new.items ≡ lines.old.items ++ line_before text.now from token.now) }
 {
     if is_counted(&token.token) {
@@ -66,7 +71,11 @@ fn end_after(from: usize, token: &Spanned) -> usize
 }
 
 /// Returns for each number of counted tokens of the text whether a line ends after them.
-pub(crate) fn lines_of(alloc: Global, text: &[u8], tokens: &[Spanned]) -> Result<Vec<bool>, AllocError>
+pub(crate) fn lines_of(
+    alloc: Global,
+    text: &[u8],
+    tokens: &[Spanned],
+) -> Result<Vec<bool>, AllocError>
     ensures { IfOk result (λ lines. lines.items ≡ lines_of_text text.now tokens.now) }
 {
     let mut lines = Vec::new(alloc);

@@ -198,7 +198,14 @@ fn placed(alloc: Global, note: &Note, before: usize) -> Result<Note, AllocError>
 }
 
 /// Returns a comment's place by the tables.
-fn goes(note: &Note, after: &[usize], before: &[usize], all: usize, lines: &[bool], back: &[bool]) -> usize
+fn goes(
+    note: &Note,
+    after: &[usize],
+    before: &[usize],
+    all: usize,
+    lines: &[bool],
+    back: &[bool],
+) -> usize
     requires after { 0 < length after.now }
     requires before { 0 < length before.now }
     requires back { back.now ≡ reverse lines.now }
@@ -213,7 +220,12 @@ fn goes(note: &Note, after: &[usize], before: &[usize], all: usize, lines: &[boo
 
 /// Returns the comments with as many tokens before them as the steps say, by the lines of the new text. No comment is
 /// before the one before it.
-pub fn moved(alloc: Global, steps: &[Step], lines: &[bool], notes: &[Note]) -> Result<Vec<Note>, AllocError>
+pub fn moved(
+    alloc: Global,
+    steps: &[Step],
+    lines: &[bool],
+    notes: &[Note],
+) -> Result<Vec<Note>, AllocError>
     ensures moved { IfOk result (λ new. new.items ≡ moved_of 0 steps.now lines.now notes.now) }
     ensures words { IfOk result (λ new. map words_of new.items ≡ map words_of notes.now) }
 {
@@ -224,7 +236,14 @@ pub fn moved(alloc: Global, steps: &[Step], lines: &[bool], notes: &[Note]) -> R
     let mut new = Vec::new(alloc);
     let mut low = 0;
     for note in notes {
-        let place = goes(note, after.places.as_slice(), before.places.as_slice(), after.all, lines, back.as_slice());
+        let place = goes(
+            note,
+            after.places.as_slice(),
+            before.places.as_slice(),
+            after.all,
+            lines,
+            back.as_slice(),
+        );
         low = low.max(place);
         new.push(placed(alloc, note, low)?)?;
     }

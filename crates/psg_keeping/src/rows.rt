@@ -27,7 +27,12 @@ fn cell(token: &Token, other: &Token, both: usize, old: usize, new: usize) -> us
 }
 
 /// Returns the row of a list with the token in front, by that of the list.
-fn next_row(alloc: Global, token: &Token, new: &[Token], row: &[usize]) -> Result<Seq<usize>, AllocError>
+fn next_row(
+    alloc: Global,
+    token: &Token,
+    new: &[Token],
+    row: &[usize],
+) -> Result<Seq<usize>, AllocError>
     requires { (old : List Plain) × IsRow old new.now row.now }
     ensures { IfOk result (λ next. (old : List Plain) → IsRow old new.now row.now
         → IsRow (token.now ∷ old) new.now next) }
@@ -113,7 +118,12 @@ pub(crate) fn new_in(step: Step) -> usize
 }
 
 /// Returns a longest pairing by the rows.
-fn traced(alloc: Global, old: &[Token], new: &[Token], rows: &[Seq<usize>]) -> Result<Vec<Step>, AllocError>
+fn traced(
+    alloc: Global,
+    old: &[Token],
+    new: &[Token],
+    rows: &[Seq<usize>],
+) -> Result<Vec<Step>, AllocError>
     requires { AreRows old.now new.now (length old.now) rows.now }
     ensures pairs { IfOk result (λ s. ArePairs old.now new.now s.items) }
     ensures most { IfOk result (λ s. IsMost old.now new.now s.items) }
@@ -147,7 +157,11 @@ fn unpaired(alloc: Global, old: &[Token], new: &[Token]) -> Result<Vec<Step>, Al
 }
 
 /// Returns a longest pairing, or one of no tokens where the table would have more than 4,000,000 entries.
-pub(crate) fn middle_steps(alloc: Global, old: &[Token], new: &[Token]) -> Result<Vec<Step>, AllocError>
+pub(crate) fn middle_steps(
+    alloc: Global,
+    old: &[Token],
+    new: &[Token],
+) -> Result<Vec<Step>, AllocError>
     ensures pairs { IfOk result (λ s. ArePairs old.now new.now s.items) }
     ensures most { IfOk result (λ s. (most_cells < length old.now * length new.now)
         ⊎ IsMost old.now new.now s.items) }

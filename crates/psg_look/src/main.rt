@@ -239,14 +239,7 @@ fn answer<F: Files + Drop, P: Pieces, O: Sink, L: Ledger>(
     };
     let mut files = Keeping::new(files, defined.rule);
     let mut steps = Steps::<L>::of(ledger);
-    let mut tui = match opened(
-        alloc,
-        &words,
-        defined.language,
-        &mut files,
-        out,
-        &mut steps,
-    ) {
+    let mut tui = match opened(alloc, &words, defined.language, &mut files, out, &mut steps) {
         Ok(tui) => tui,
         Err(status) => return status,
     };
