@@ -23,7 +23,10 @@ fn cell(token: &Token, other: &Token, both: usize, old: usize, new: usize) -> us
     if is_same(token, other) {
         return both + 1;
     }
-    old.max(new)
+    if old >= new {
+        return old;
+    }
+    new
 }
 
 /// Returns the row of a list with the token in front, by that of the list.
@@ -40,8 +43,9 @@ fn next_row(
     let mut next = Vec::new(alloc);
     next.push(0)?;
     for count in 0..new.len() {
+        let done = next.as_slice();
         let other = &new[new.len() - 1 - count];
-        let value = cell(token, other, row[count], row[count + 1], next[count]);
+        let value = cell(token, other, row[count], row[count + 1], done[count]);
         next.push(value)?;
     }
     Ok(Seq::of(next))
@@ -67,7 +71,9 @@ fn rows_of(alloc: Global, old: &[Token], new: &[Token]) -> Result<Vec<Seq<usize>
     rows.push(first_row(alloc, new)?)?;
     for count in 0..old.len() {
         let token = &old[old.len() - 1 - count];
-        let row = next_row(alloc, token, new, rows[count].as_slice())?;
+        let done = rows.as_slice();
+        let below = done[count].as_slice();
+        let row = next_row(alloc, token, new, below)?;
         rows.push(row)?;
     }
     Ok(rows)
