@@ -5,3 +5,4 @@ pub mod WholeLaws
 pub mod MoveLaws
 pub mod LineLaws
 pub mod KeepLaws
+pub mod FileLaws

@@ -1,8 +1,8 @@
 -- Laws of the places of comments.
-use Rattle.std.proofs.Common.{◌≡◌, inl, inr, ℕ, zero, suc, ◌+◌, ◌-◌, ◌<◌, ◌≤◌, Bool, List, [], ◌∷◌, ◌++◌, length, get_or, refl, sym, ap, ◌∙◌, subst, append-nil, arith, length-append}
+use Rattle.std.proofs.Common.{◌≡◌, inl, inr, ℕ, zero, suc, ◌+◌, ◌-◌, ◌<◌, ◌≤◌, Bool, List, [], ◌∷◌, ◌++◌, length, drop, get_or, refl, sym, ap, ◌∙◌, subst, append_assoc, append-nil, arith, length-append}
 use Rattle.std.specs.Prelude.{cond, map, max, replicate, reverse}
 use Rattle.std.proofs.lemmas.Bool.{cases_lt}
-use Rattle.std.proofs.lemmas.List.{get_or_append_left, get_or_push, reverse-append}
+use Rattle.std.proofs.lemmas.List.{drop_all, drop_more, get_or_append_left, get_or_push, reverse-append}
 use Rattle.psg_commented.specs.Keeping.{words_of}
 use Rattle.psg_commented.specs.declared.noting.Note.{Note}
 use Rattle.psg_keeping.specs.declared.pairing.Step.{Step}
@@ -54,7 +54,7 @@ after_front (suc count) (steps.Old ∷ p) q l = after_front count p q (omega (ar
 after_front (suc count) (steps.New ∷ p) q l = ap one_more (after_front (suc count) p q l)
 
 more_than_none : (n : ℕ) → one_more (suc n) ≡ suc (suc n)
-more_than_none n = omega arith
+more_than_none n = refl
 
 after_both : (p : List Step) → after_partner (suc (olds p)) (p ++ steps.Both ∷ []) ≡ suc (news p)
 after_both [] = refl
@@ -153,3 +153,28 @@ pub moved_words : (low : ℕ) (own : List Step) (lines : List Bool) (notes : Lis
     → map words_of (moved low own lines notes) ≡ map words_of notes
 moved_words low own lines [] = refl
 moved_words low own lines (n ∷ notes) = ap (λ l. n.text ∷ l) (moved_words (max low (goes own lines n)) own lines notes)
+
+pub new_small : (s : Step) → new_in s ≤ 1
+new_small steps.Both = omega arith
+new_small steps.Old = omega arith
+new_small steps.New = omega arith
+
+-- one comment more is placed
+pub moved_next : (own : List Step) (lines : List Bool) (notes : List Note) (i : ℕ) (n : Note) (done done' : List Note)
+    (low place low' : ℕ) → done ++ moved low own lines (drop i notes) ≡ moved 0 own lines notes → i < length notes
+    → n ≡ get_or notes i n → place ≡ goes own lines n → low' ≡ max low place → done' ≡ done ++ placed low' n ∷ []
+    → done' ++ moved low' own lines (drop (i + 1) notes) ≡ moved 0 own lines notes
+moved_next own lines notes i n done done' low place low' inv l at ep el ed =
+    let rest = drop (i + 1) notes in
+    let next : low' ≡ max low (goes own lines n) = el ∙ ap (λ k. max low k) ep in
+    let here : drop i notes ≡ n ∷ rest = drop_more notes i n l ∙ ap (λ z. z ∷ rest) (sym at) in
+    ap (λ l. l ++ moved low' own lines rest) ed ∙ append_assoc done (placed low' n ∷ []) (moved low' own lines rest)
+    ∙ ap (λ k. done ++ (placed k n ∷ moved k own lines rest)) next
+    ∙ ap (λ l. done ++ moved low own lines l) (sym here) ∙ inv
+
+pub words_end : (own : List Step) (lines : List Bool) (notes : List Note) (i : ℕ) (done : List Note) (low : ℕ)
+    → done ++ moved low own lines (drop i notes) ≡ moved 0 own lines notes → length notes ≤ i
+    → map words_of done ≡ map words_of notes
+words_end own lines notes i done low inv l =
+    ap (λ l. map words_of l) (sym (append-nil done) ∙ ap (λ l. done ++ moved low own lines l) (sym (drop_all i notes l)) ∙ inv)
+    ∙ moved_words 0 own lines notes

@@ -1,5 +1,5 @@
 -- Where the comments of a text go in a new one.
-use Rattle.std.specs.Prelude.{ℕ, ◌≡◌, ◌≤◌, ◌+◌, ◌-◌, ◌==◌, ◌||◌, max, min, nat_le, nat_lt, not, cond, Bool, true, false, zero, suc, List, [], ◌∷◌}
+use Rattle.std.specs.Prelude.{ℕ, ◌≡◌, ◌≤◌, ◌+◌, ◌-◌, ◌||◌, max, min, nat_le, nat_lt, not, cond, Bool, true, false, zero, suc, List, [], ◌∷◌}
 use Rattle.std.specs.Prelude.{length, get_or, drop, take, reverse, position, unwrap_or}
 use Rattle.psg_commented.specs.declared.noting.Note.{Note}
 use Rattle.psg_keeping.specs.declared.pairing.Step.{Step}
@@ -20,7 +20,8 @@ news (steps.New ∷ more) = suc (news more)
 
 -- one more, but for none
 abbrev pub one_more : ℕ → ℕ
-one_more count = cond (count == 0) 0 (count + 1)
+one_more zero = 0
+one_more (suc count) = suc (suc count)
 
 -- how many new tokens there are up to the partner of the last paired one of the first `count` old tokens; none, where
 -- none of those is paired

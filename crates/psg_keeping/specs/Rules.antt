@@ -18,9 +18,9 @@ unmarked bytes = cond (bytes_eq (take 3 bytes) (239 ∷ 187 ∷ 191 ∷ [])) (dr
 
 -- what is given for the bytes of a file, and what is known after it
 pub data Opens (name read : List ℕ) : Option CommentRule → List ℕ → Option Known → Type 0 where
-  no_rule : Opens name read None read None
-  no_text : (rule : CommentRule) → (IsUtf8 (unmarked read) → ⊥) → Opens name read (Some rule) read None
-  is_text : (rule : CommentRule) (comments : List Comment) (own : List ℕ) → IsUtf8 (unmarked read)
+  plain : Opens name read None read None
+  other : (rule : CommentRule) → (IsUtf8 (unmarked read) → ⊥) → Opens name read (Some rule) read None
+  blanked : (rule : CommentRule) (comments : List Comment) (own : List ℕ) → IsUtf8 (unmarked read)
       → IsBlanked rule.fixed rule.token (unmarked read) comments own
       → Opens name read (Some rule) (take (length read - length (unmarked read)) read ++ own)
       (Some (record { name = name; text = unmarked read }))

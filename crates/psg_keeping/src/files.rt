@@ -1,5 +1,6 @@
 //! Files whose comments are kept.
-ghost use Rattle.std.specs.Prelude.{◌≡◌, ◌+◌, ◌≤◌, IfNone, IfOk, IfSome, List, None, OnErr, OnOk, Some, ℕ, vec_len};
+ghost use Rattle.std.specs.Prelude.{◌≡◌, ◌↔◌, ◌+◌, ◌≤◌, IfNone, IfOk, IfSome, IsTrue, List, None, OnErr, OnOk, Some};
+ghost use Rattle.std.specs.Prelude.{ℕ, vec_len};
 ghost use Rattle.std.specs.FinMap as map;
 ghost use Rattle.std.specs.Option.{option_map};
 ghost use Rattle.psg_keeping.specs.Rules.{Opens, Writes, unmarked as unmarked_of};
@@ -88,6 +89,45 @@ fn opened(alloc: Global, rule: &Option<Rule>, name: &str, bytes: &[u8]) -> Resul
     }
 }
 
+/// Says whether the file has this name.
+fn is_name(known: &Known, name: &str) -> bool
+    ensures { IsTrue result ↔ (known.now.name ≡ name.now) }
+{
+    known.name.as_str() == name
+}
+
+/// Returns the known file as it is after the bytes are written with comments, or none where they are written as they
+/// are.
+fn renewed(
+    alloc: Global,
+    rule: &Rule,
+    known: &Known,
+    name: &str,
+    bytes: &[u8],
+) -> Result<Option<Known>, AllocError>
+    ensures some { IfOk result (λ found. IfSome found (λ k. Writes (Some rule.now) (Some known.now) name.now bytes.now
+        k.text (Some k))) }
+    ensures none { IfOk result (λ found. IfNone found (Writes (Some rule.now) (Some known.now) name.now bytes.now
+        bytes.now (Some known.now))) }
+{
+    if !is_name(known, name) {
+        return Ok(None);
+    }
+    let own = known.text.as_slice();
+    let Ok(old) = str::from_utf8(own) else {
+        return Ok(None);
+    };
+    let Ok(new) = str::from_utf8(bytes) else {
+        return Ok(None);
+    };
+    let text = rule.keep(alloc, old, new)?;
+    let name = Txt::copy_of(alloc, name)?;
+    Ok(Some(Known {
+        name,
+        text: Seq::of(text),
+    }))
+}
+
 /// Returns the file as it is after the bytes are written with comments, or none where they are written as they are.
 fn written(
     alloc: Global,
@@ -107,21 +147,8 @@ fn written(
     let Some(known) = known else {
         return Ok(None);
     };
-    if known.name.as_str() != name {
-        return Ok(None);
-    }
-    let Ok(old) = str::from_utf8(known.text.as_slice()) else {
-        return Ok(None);
-    };
-    let Ok(new) = str::from_utf8(bytes) else {
-        return Ok(None);
-    };
-    let text = rule.keep(alloc, old, new)?;
-    let name = Txt::copy_of(alloc, name)?;
-    Ok(Some(Known {
-        name,
-        text: Seq::of(text),
-    }))
+    let found = renewed(alloc, rule, known, name, bytes)?;
+    Ok(found)
 }
 
 impl<F: Files> Keeping<F> {

@@ -76,8 +76,8 @@ pub(crate) fn kept_in(
     match found {
         Some(text) => Ok(text.into_bytes()),
         None => {
-            let bytes = on_top(alloc, notes.as_slice(), new)?;
-            Ok(bytes)
+            let top = on_top(alloc, notes.as_slice(), new)?;
+            Ok(top)
         }
     }
 }

@@ -1,0 +1,20 @@
+use Rattle.std.proofs.Common.{◌≡◌, sym, ◌∙◌}
+use Rattle.std.specs.Prelude.{string_bytes}
+use Rattle.std.proofs.lemmas.Bool.{eqb-true}
+use Rattle.std.proofs.lemmas.List.{nil_from_length}
+use Rattle.psg_commented.proofs.Keep.{none_at, some_at}
+use Rattle.psg_keeping.proofs.KeepLaws.{kept_none, kept_top, kept_with}
+use Rattle.psg_keeping.proofs.writing.kept_in.Goals as goal
+
+pub returns-then-is_empty : goal.returns-then-is_empty
+returns-then-is_empty c =
+    kept_none c.args.lexis.now c.args.token.now c.args.old.now c.args.new.now c.in_ok-blanked.blanked.comments.items
+    c.in_ok-blanked.blanked.bytes.items _ c.in_ok-blanked.ensures
+    (sym c.as_slice-comments.ensures.value ∙ nil_from_length c.as_slice-comments.result.now (eqb-true _ 0 (sym c.if-is_empty.ensures)))
+    (c.in_ok-bytes.ensures.items ∙ c.as_bytes.ensures.value)
+
+pub returns-in-Some : goal.returns-in-Some
+returns-in-Some c = ?
+
+pub returns : goal.returns
+returns c = ?
