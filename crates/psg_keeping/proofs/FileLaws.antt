@@ -42,4 +42,4 @@ same_known a k e = cc
 
 pub not_named : (rule : Option CommentRule) (known : Known) (name bytes : List ℕ) → (known.name ≡ name → ⊥)
     → Writes rule (Some known) name bytes bytes (Some known)
-not_named rule known name bytes no = not_known (λ k e s. no (ap (λ z. z.name) (same_known known k e) ∙ s))
+not_named rule known name bytes apart = not_known (λ k e s. apart (ap (λ z. z.name) (same_known known k e) ∙ s))

@@ -1,5 +1,5 @@
 //! Where the comments of a text go in a new one.
-ghost use Rattle.std.specs.Prelude.{◌≡◌, ◌<◌, ◌≤◌, ◌+◌, ◌++◌, IfOk, List, OnOk, Some, drop, length, map, position};
+ghost use Rattle.std.specs.Prelude.{◌≡◌, ◌<◌, ◌≤◌, ◌+◌, ◌++◌, IfOk, List, OnOk, Some, drop, length, map, max, position};
 ghost use Rattle.std.specs.Prelude.{replicate, reverse, slice_get, take};
 ghost use Rattle.psg_commented.specs.Keeping.{words_of};
 ghost use Rattle.psg_keeping.specs.Moving.{AreAfters, after_partner, before_partner};
@@ -218,6 +218,13 @@ fn goes(
     place_between(lines, back, late, from, to)
 }
 
+/// Returns the later one of two places.
+fn later(one: usize, other: usize) -> usize
+    ensures { result ≡ max one other }
+{
+    one.max(other)
+}
+
 /// Returns the comments with as many tokens before them as the steps say, by the lines of the new text. No comment is
 /// before the one before it.
 pub fn moved(
@@ -244,7 +251,7 @@ pub fn moved(
             lines,
             back.as_slice(),
         );
-        low = low.max(place);
+        low = later(low, place);
         new.push(placed(alloc, note, low)?)?;
     }
     Ok(new)

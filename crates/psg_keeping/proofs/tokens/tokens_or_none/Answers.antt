@@ -17,4 +17,7 @@ returns-in-Some c =
     (some_at _ c.in_ok-found.found c.in-Some.tokens c.in-Some.is c.in_ok-found.ensures.some))
 
 pub returns-in-None : goal.returns-in-None
-returns-in-None c = ?
+returns-in-None c =
+    subst (λ l. AreTokens c.args.lexis.now c.args.bytes.now l) (sym c.new-in-None.ensures.items)
+    (no_tokens (λ u ts h. absurd (none_at c.in_ok-found.found c.in-None.is c.in_ok-found.ensures.none ts
+    (subst (λ t. HasTokens c.args.lexis.now (chars t) 0 ts) (sym c.in-Ok.ensures.cases.0) h))))

@@ -14,7 +14,14 @@ returns-then-is_empty c =
     (c.in_ok-bytes.ensures.items ∙ c.as_bytes.ensures.value)
 
 pub returns-in-Some : goal.returns-in-Some
-returns-in-Some c = ?
+returns-in-Some c =
+    kept_with c.args.lexis.now c.args.token.now c.args.old.now c.args.new.now c.in_ok-notes.notes.items c.as_slice.result.now
+    (string_bytes c.in-Some.text) _ (c.in_ok-notes.ensures c.args.token.now c.in_ok-blanked.ensures) c.as_slice.ensures.value
+    (some_at _ c.in_ok-found.found c.in-Some.text c.in-Some.is c.in_ok-found.ensures.some) c.into_bytes.ensures.value
 
 pub returns : goal.returns
-returns c = ?
+returns c =
+    kept_top c.args.lexis.now c.args.token.now c.args.old.now c.args.new.now c.in_ok-notes.notes.items c.as_slice.result.now
+    c.as_slice-in-None.result.now _ (c.in_ok-notes.ensures c.args.token.now c.in_ok-blanked.ensures) c.as_slice.ensures.value
+    c.as_slice-in-None.ensures.value (none_at c.in_ok-found.found c.in-None.is c.in_ok-found.ensures.none)
+    c.in_ok-top-in-None.ensures
