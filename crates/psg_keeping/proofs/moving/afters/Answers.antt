@@ -9,8 +9,15 @@ overflow_add-seen c =
     let i = c.loop-place.place in
     let here : length (take i c.args.steps.now) ≡ i = length-take-le i c.args.steps.now (omega (arith, c.loop-place-test.true)) in
     let small : c.loop-place.seen + c.new_in-seen.result ≤ length c.args.steps.now =
-    omega (arith, c.loop-place.invariant.seen_is, news_within (take i c.args.steps.now), here, c.loop-place-test.true,
-    c.new_in-seen.ensures, new_small c.step_at-step.result) in
+    omega (
+      arith,
+      c.loop-place.invariant.seen_is,
+      news_within (take i c.args.steps.now),
+      here,
+      c.loop-place-test.true,
+      c.new_in-seen.ensures,
+      new_small c.step_at-step.result,
+    ) in
     search (rules, small)
 
 pub loop-place-preserved : goal.loop-place-preserved

@@ -35,4 +35,4 @@ pub returns : goal.returns
 returns c =
     let end : c.loop-count.count ≡ length c.args.new.now = search rules in
     λ old r. subst (λ l. IsRow (c.args.token.now ∷ old) c.args.new.now l) (sym c.of.ensures)
-        (row_whole (c.args.token.now ∷ old) c.args.new.now c.loop-count.next.items c.loop-count.count end (c.loop-count.invariant.1 old r))
+    (row_whole (c.args.token.now ∷ old) c.args.new.now c.loop-count.next.items c.loop-count.count end (c.loop-count.invariant.1 old r))

@@ -14,14 +14,14 @@ walk-preserved c =
     let new = c.args.new.now in
     let g = c.walk.invariant in (
       subst (λ l. GoesOn old new (end_of (c.walk.own - c.old_in-own.result) old) (end_of (c.walk.theirs - c.new_in-theirs.result) new) l)
-      (sym c.in_ok-push.ensures.items)
-      (walk_on old new c.walk.steps.items c.walk.own c.walk.theirs (c.walk.own - c.old_in-own.result)
-      (c.walk.theirs - c.new_in-theirs.result) c.index-old-old.result c.index-new-new.result c.next_step-step.result c.walk-test.true
-      g.1 c.if-theirs-gt0.true g.2 c.index-old-old.is c.index-new-new.is g.0
-      (step_next old new c.args.rows.now c.walk.own c.walk.theirs c.value-without.result c.value-with.result c.index-old-old.result
-      c.index-new-new.result c.next_step-step.result c.requires c.walk-test.true g.1 c.if-theirs-gt0.true g.2 c.index-old-old.is
-      c.index-new-new.is c.value-without.ensures c.value-with.ensures c.next_step-step.ensures)
-      (ap (λ k. c.walk.own - k) c.old_in-own.ensures) (ap (λ k. c.walk.theirs - k) c.new_in-theirs.ensures)),
+          (sym c.in_ok-push.ensures.items)
+          (walk_on old new c.walk.steps.items c.walk.own c.walk.theirs (c.walk.own - c.old_in-own.result)
+          (c.walk.theirs - c.new_in-theirs.result) c.index-old-old.result c.index-new-new.result c.next_step-step.result c.walk-test.true
+          g.1 c.if-theirs-gt0.true g.2 c.index-old-old.is c.index-new-new.is g.0
+          (step_next old new c.args.rows.now c.walk.own c.walk.theirs c.value-without.result c.value-with.result c.index-old-old.result
+          c.index-new-new.result c.next_step-step.result c.requires c.walk-test.true g.1 c.if-theirs-gt0.true g.2 c.index-old-old.is
+          c.index-new-new.is c.value-without.ensures c.value-with.ensures c.next_step-step.ensures)
+          (ap (λ k. c.walk.own - k) c.old_in-own.ensures) (ap (λ k. c.walk.theirs - k) c.new_in-theirs.ensures)),
       omega (arith, g.1),
       omega (arith, g.2),
     )

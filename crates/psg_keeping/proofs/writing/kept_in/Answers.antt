@@ -1,4 +1,4 @@
-use Rattle.std.proofs.Common.{◌≡◌, sym, ◌∙◌}
+use Rattle.std.proofs.Common.{◌≡◌, sym, ap, ◌∙◌}
 use Rattle.std.specs.Prelude.{string_bytes}
 use Rattle.std.proofs.lemmas.Bool.{eqb-true}
 use Rattle.std.proofs.lemmas.List.{nil_from_length}
@@ -17,7 +17,7 @@ pub returns-in-Some : goal.returns-in-Some
 returns-in-Some c =
     kept_with c.args.lexis.now c.args.token.now c.args.old.now c.args.new.now c.in_ok-notes.notes.items c.as_slice.result.now
     (string_bytes c.in-Some.text) _ (c.in_ok-notes.ensures c.args.token.now c.in_ok-blanked.ensures) c.as_slice.ensures.value
-    (some_at _ c.in_ok-found.found c.in-Some.text c.in-Some.is c.in_ok-found.ensures.some) c.into_bytes.ensures.value
+    (some_at _ c.in_ok-found.found c.in-Some.text c.in-Some.is c.in_ok-found.ensures.some) (ap (λ v. v.items) c.into_bytes.ensures.value)
 
 pub returns : goal.returns
 returns c =
