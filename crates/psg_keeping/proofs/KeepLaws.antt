@@ -1,5 +1,5 @@
 -- What is written for a new text.
-use Rattle.std.proofs.Common.{◌≡◌, inl, inr, ℕ, ◌⊎◌, List, [], ◌∷◌, ◌++◌, sym, ap, ◌∙◌, subst}
+use Rattle.std.proofs.Common.{◌≡◌, ℕ, List, [], ◌++◌, sym, ap, ◌∙◌, subst}
 use Rattle.psg_terms.specs.Names.{Name}
 use Rattle.psg_comments.specs.Blanking.{IsBlanked}
 use Rattle.psg_comments.specs.declared.finding.Comment.{Comment}

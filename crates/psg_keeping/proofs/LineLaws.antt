@@ -1,5 +1,5 @@
 -- Laws of the places between lines, and of tables that are read.
-use Rattle.std.proofs.Common.{◌≡◌, inl, inr, ℕ, ◌+◌, ◌-◌, ◌<◌, ◌≤◌, Bool, true, false, List, [], ◌∷◌, ◌++◌, length, take, get_or, sym, ap, ◌∙◌, subst, Some, arith}
+use Rattle.std.proofs.Common.{◌≡◌, inl, inr, ℕ, ◌+◌, ◌-◌, Bool, true, false, List, [], ◌∷◌, ◌++◌, length, take, get_or, sym, ap, ◌∙◌, subst, Some, arith}
 use Rattle.std.specs.Prelude.{◌||◌, min, nat_le, reverse, slice_get}
 use Rattle.std.proofs.lemmas.Bool.{cases_lt}
 use Rattle.std.proofs.lemmas.List.{take_more}
@@ -9,7 +9,7 @@ use Rattle.psg_keeping.specs.Moving.{AreAfters, after_partner, before_partner, i
 use Rattle.psg_keeping.specs.Rows.{new_in, old_in}
 use Rattle.psg_keeping.specs.Moving.{last_of}
 use Rattle.std.specs.Prelude.{replicate}
-use Rattle.psg_keeping.proofs.MoveLaws.{IsAfter, after_beyond, after_step, news_within, olds_reverse}
+use Rattle.psg_keeping.proofs.MoveLaws.{IsAfter, after_beyond, after_step, olds_reverse}
 
 pub between_early : (lines : List Bool) (late : Bool) (from to most k : ℕ) → late ≡ false → most ≡ to - from
     → k ≡ near_end lines from most → from + k ≡ place_between lines late from to

@@ -1,13 +1,13 @@
 -- Laws of the places of comments.
-use Rattle.std.proofs.Common.{◌≡◌, inl, inr, ℕ, zero, suc, ◌+◌, ◌-◌, ◌<◌, ◌≤◌, Bool, List, [], ◌∷◌, ◌++◌, length, drop, get_or, refl, sym, ap, ◌∙◌, subst, append_assoc, append-nil, arith, length-append}
-use Rattle.std.specs.Prelude.{cond, map, max, replicate, reverse}
+use Rattle.std.proofs.Common.{◌≡◌, inl, inr, ℕ, zero, suc, ◌+◌, ◌<◌, ◌≤◌, Bool, List, [], ◌∷◌, ◌++◌, length, drop, get_or, refl, sym, ap, ◌∙◌, subst, append_assoc, append-nil, arith, length-append}
+use Rattle.std.specs.Prelude.{map, max, replicate, reverse}
 use Rattle.std.proofs.lemmas.Bool.{cases_lt}
 use Rattle.std.proofs.lemmas.List.{drop_all, drop_more, get_or_append_left, get_or_push, reverse-append}
 use Rattle.psg_commented.specs.Keeping.{words_of}
 use Rattle.psg_commented.specs.declared.noting.Note.{Note}
 use Rattle.psg_keeping.specs.declared.pairing.Step.{Step}
 use Rattle.psg_keeping.specs.declared.pairing.Step.TheVariants as steps
-use Rattle.psg_keeping.specs.Moving.{AreAfters, after_partner, before_partner, goes, last_of, moved, news, olds, one_more, placed}
+use Rattle.psg_keeping.specs.Moving.{AreAfters, after_partner, goes, last_of, moved, news, olds, one_more, placed}
 use Rattle.psg_keeping.specs.Rows.{new_in, old_in}
 
 -- ---- how many tokens steps take

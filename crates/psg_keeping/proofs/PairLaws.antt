@@ -1,11 +1,11 @@
 -- Laws of pairings of two lists.
-use Rattle.std.proofs.Common.{◌≡◌, ◌≢◌, inl, inr, ℕ, zero, suc, ◌+◌, ◌-◌, ◌<◌, ◌≤◌, List, [], ◌∷◌, ◌++◌, length, refl, sym, ap, ◌∙◌, subst, append_assoc, append-nil, arith, length-append}
+use Rattle.std.proofs.Common.{◌≡◌, ◌≢◌, ℕ, zero, suc, ◌+◌, ◌≤◌, List, [], ◌∷◌, ◌++◌, length, refl, sym, ap, ◌∙◌, subst, append_assoc, append-nil, arith}
 use Rattle.std.specs.Prelude.{replicate}
 use Rattle.psg_lexis.specs.declared.token.Token.{Token}
 use Rattle.psg_keeping.specs.declared.pairing.Step.{Step}
 use Rattle.psg_keeping.specs.declared.pairing.Step.TheVariants as steps
 use Rattle.psg_keeping.specs.Pairing.{ArePairs, ends, both, old_alone, new_alone, pairs, IsMost}
-use Rattle.psg_keeping.specs.Rows.{IsBest, IsNext}
+use Rattle.psg_keeping.specs.Rows.{IsBest}
 
 tail_is : {X : Type 0} (x y : X) (xs ys : List X) → x ∷ xs ≡ y ∷ ys → xs ≡ ys
 tail_is x y xs ys e = cc

@@ -1,14 +1,14 @@
 -- Laws of the table, and of a walk along it.
-use Rattle.std.proofs.Common.{◌≡◌, ◌≢◌, inl, inr, ℕ, zero, suc, ◌+◌, ◌-◌, ◌<◌, ◌≤◌, ◌⊎◌, List, [], ◌∷◌, ◌++◌, length, drop, get_or, refl, sym, ap, ◌∙◌, subst, append_assoc, arith, length-append}
+use Rattle.std.proofs.Common.{◌≡◌, ◌≢◌, inl, inr, ℕ, ◌+◌, ◌-◌, ◌<◌, ◌≤◌, ◌⊎◌, List, [], ◌∷◌, ◌++◌, length, drop, get_or, refl, sym, ap, ◌∙◌, subst, append_assoc, arith, length-append}
 use Rattle.std.specs.Prelude.{replicate}
 use Rattle.std.proofs.lemmas.Bool.{cases_lt}
-use Rattle.std.proofs.lemmas.List.{drop_all, drop_more, get_or_append_left, get_or_push, length-drop, length-replicate}
+use Rattle.std.proofs.lemmas.List.{drop_all, drop_more, get_or_append_left, get_or_push, length-drop}
 use Rattle.psg_lexis.specs.declared.token.Token.{Token}
 use Rattle.psg_keeping.specs.declared.pairing.Step.{Step}
 use Rattle.psg_keeping.specs.declared.pairing.Step.TheVariants as steps
 use Rattle.psg_keeping.specs.Pairing.{ArePairs, both, old_alone, new_alone, pairs, IsMost}
-use Rattle.psg_keeping.specs.Rows.{AreRows, IsBest, IsNext, IsRow, end_of, new_in, old_in, value_at}
-use Rattle.psg_keeping.proofs.PairLaws.{all_alone, best_both, best_left, best_new, best_old, best_right, best_within, most_of, one_best, pairs-append, pairs-news, pairs-olds}
+use Rattle.psg_keeping.specs.Rows.{AreRows, IsBest, IsNext, IsRow, end_of, new_in, old_in}
+use Rattle.psg_keeping.proofs.PairLaws.{all_alone, best_both, best_left, best_new, best_old, best_right, most_of, one_best, pairs-append}
 
 -- ---- ends of lists
 

@@ -1,4 +1,4 @@
-use Rattle.std.proofs.Common.{◌≡◌, ◌-◌, ◌++◌, List, ℕ, length, take, rules, sym, ap, ◌∙◌, subst}
+use Rattle.std.proofs.Common.{◌-◌, ◌++◌, List, ℕ, length, take, rules, sym, ap, ◌∙◌, subst}
 use Rattle.std.specs.Prelude.{IsUtf8, Some}
 use Rattle.psg_comments.specs.Blanking.{IsBlanked}
 use Rattle.psg_keeping.specs.Rules.{other, unmarked}

@@ -1,4 +1,4 @@
-use Rattle.std.proofs.Common.{◌≡◌, true≢false, refl, rules, sym, subst, ◌∙◌}
+use Rattle.std.proofs.Common.{true≢false, refl, rules, sym, subst, ◌∙◌}
 use Rattle.std.specs.Prelude.{IsUtf8, Some}
 use Rattle.psg_keeping.specs.Rules.{no_text}
 use Rattle.psg_keeping.specs.Writing.{IsKept}

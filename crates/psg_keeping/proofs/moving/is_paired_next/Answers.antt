@@ -1,4 +1,4 @@
-use Rattle.std.proofs.Common.{◌≡◌, ◌-◌, length, refl, sym, ap, ◌∙◌}
+use Rattle.std.proofs.Common.{◌-◌, length, refl, sym, ap, ◌∙◌}
 use Rattle.std.specs.Prelude.{◌||◌, nat_le, reverse}
 use Rattle.psg_keeping.proofs.LineLaws.{next_is}
 use Rattle.psg_keeping.proofs.moving.is_paired_next.Goals as goal

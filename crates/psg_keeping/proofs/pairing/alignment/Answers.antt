@@ -1,7 +1,7 @@
-use Rattle.std.proofs.Common.{◌≡◌, ◌++◌, sym, ap, ◌∙◌, subst}
+use Rattle.std.proofs.Common.{◌++◌, ap, ◌∙◌}
 use Rattle.std.specs.Prelude.{replicate}
 use Rattle.psg_keeping.specs.declared.pairing.Step.TheVariants as steps
-use Rattle.psg_keeping.proofs.WholeLaws.{IsCutUp, cut_by, cut_most, cut_pairs}
+use Rattle.psg_keeping.proofs.WholeLaws.{cut_by, cut_most, cut_pairs}
 use Rattle.psg_keeping.proofs.pairing.alignment.Goals as goal
 
 pub returns-clause-pairs : goal.returns-clause-pairs

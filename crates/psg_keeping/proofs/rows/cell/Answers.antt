@@ -1,4 +1,4 @@
-use Rattle.std.proofs.Common.{◌≡◌, true≢false, sym, ◌∙◌, arith}
+use Rattle.std.proofs.Common.{true≢false, sym, ◌∙◌, arith}
 use Rattle.psg_keeping.proofs.CellLaws.{best_same}
 use Rattle.psg_keeping.proofs.PairLaws.{best_new, best_old}
 use Rattle.psg_keeping.proofs.rows.cell.Goals as goal

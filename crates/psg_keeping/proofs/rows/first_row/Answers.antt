@@ -1,4 +1,4 @@
-use Rattle.std.proofs.Common.{◌≡◌, ◌+◌, [], ◌∷◌, ◌++◌, sym, ap, ◌∙◌, subst}
+use Rattle.std.proofs.Common.{◌+◌, [], ◌∷◌, ◌++◌, sym, ap, ◌∙◌, subst}
 use Rattle.psg_keeping.specs.Rows.{end_of}
 use Rattle.psg_keeping.proofs.PairLaws.{best_left}
 use Rattle.psg_keeping.proofs.RowLaws.{IsFrontRow, row_none, row_push}

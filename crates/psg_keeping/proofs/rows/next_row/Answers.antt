@@ -1,5 +1,4 @@
-use Rattle.std.proofs.Common.{◌≡◌, ◌+◌, ◌≤◌, ◌<◌, [], ◌∷◌, ◌++◌, List, ℕ, get_or, length, length-append, rules, sym, ap, ◌∙◌, subst, arith}
-use Rattle.psg_lexis.specs.declared.token.Token.{Token}
+use Rattle.std.proofs.Common.{◌≡◌, ◌+◌, ◌≤◌, [], ◌∷◌, ◌++◌, get_or, length, length-append, rules, sym, ap, ◌∙◌, subst, arith}
 use Rattle.psg_keeping.specs.Rows.{IsRow}
 use Rattle.psg_keeping.proofs.CellLaws.{cell_next, cell_small}
 use Rattle.psg_keeping.proofs.RowLaws.{IsFrontRow, row_none, row_whole}

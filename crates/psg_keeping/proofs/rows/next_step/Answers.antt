@@ -1,4 +1,4 @@
-use Rattle.std.proofs.Common.{◌≡◌, true≢false, sym, ◌∙◌, arith}
+use Rattle.std.proofs.Common.{true≢false, sym, ◌∙◌, arith}
 use Rattle.psg_keeping.proofs.RowLaws.{next_both, next_new, next_old}
 use Rattle.psg_keeping.proofs.rows.next_step.Goals as goal
 

@@ -1,4 +1,4 @@
-use Rattle.std.proofs.Common.{◌≡◌, ◌+◌, get_or, sym, ap, ◌∙◌, subst}
+use Rattle.std.proofs.Common.{◌+◌, get_or, sym, ap, ◌∙◌, subst}
 use Rattle.psg_keeping.specs.Rows.{AreRows}
 use Rattle.psg_keeping.proofs.CellLaws.{rows_next}
 use Rattle.psg_keeping.proofs.rows.rows_of.Goals as goal

@@ -1,4 +1,4 @@
-use Rattle.std.proofs.Common.{◌≡◌, rules, sym, ◌∙◌, subst}
+use Rattle.std.proofs.Common.{rules, sym, subst}
 use Rattle.std.specs.Prelude.{IsUtf8, chars}
 use Rattle.psg_lexis.specs.Tokens.{HasTokens}
 use Rattle.psg_commented.proofs.Keep.{none_at, some_at}
