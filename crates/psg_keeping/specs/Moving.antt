@@ -1,5 +1,6 @@
 -- Where the comments of a text go in a new one.
-use Rattle.std.specs.Prelude.{ℕ, ◌≡◌, ◌≤◌, ◌+◌, ◌-◌, ◌||◌, max, min, nat_le, nat_lt, not, cond, Bool, true, false, zero, suc, List, [], ◌∷◌}
+use Rattle.std.specs.Prelude.{ℕ, ◌≡◌, ◌≤◌, ◌+◌, ◌-◌, ◌||◌, max, min, nat_le, nat_lt}
+use Rattle.std.specs.Prelude.{not, cond, Bool, true, false, zero, suc, List, [], ◌∷◌}
 use Rattle.std.specs.Prelude.{length, get_or, drop, take, reverse, position, unwrap_or}
 use Rattle.psg_commented.specs.declared.noting.Note.{Note}
 use Rattle.psg_keeping.specs.declared.pairing.Step.{Step}

@@ -102,3 +102,12 @@ fn comments_are_kept(rt: HostRuntime) -> Result<(), Fail> {
     }
     Ok(())
 }
+
+#[test]
+fn what_was_written_is_known(rt: HostRuntime) -> Result<(), Fail> {
+    let alloc = rt.alloc();
+    let found = written(alloc, "a // one\nb\n", &["a\nc\nb\n", "a\nc\n"])?;
+    let expected = "a // one\nc\n";
+    assert_eq!(rt; String::from_utf8(found)?.as_str(), expected);
+    Ok(())
+}
