@@ -4,12 +4,17 @@
 
 ghost use Rattle.std.specs.Prelude.{◌≡◌, ◌<◌, IfSome};
 ghost use Rattle.psg_grammar.specs.Fragments.{Fragment};
+ghost use Rattle.psg_defcomment.specs.Reading.{IsCommentOf};
 ghost use Rattle.psg_grammar.specs.Kinds.{HasKind};
+ghost use Rattle.psg_grammar.specs.WellFormed.{fixed_words as fixed_words_of};
 ghost use Rattle.psg_session.specs.Sessions.{state_of};
 ghost use Rattle.psg_tui.specs.Pressing.{IsOpened};
 
 use psg_defcomment::read_commented;
-use psg_grammar::{Kind, kind_named};
+use psg_grammar::{Definition, Kind, kind_named};
+use psg_keeping::{Keeping, Rule};
+use psg_lexis::Lexis;
+use psg_parse::fixed_words;
 use psg_session::Session;
 use psg_specimen::{Language, accept};
 use psg_terms::{Steps, Txt};
@@ -65,16 +70,44 @@ fn words_of(words: &[String]) -> Option<Words<'_>> {
     })
 }
 
+/// A language, and how its comments are found, if it has any.
+#[derive(Drop)]
+struct Defined {
+    language: Language,
+    rule: Option<Rule>,
+}
+
+/// Returns how the comments of the language are found, if it has any.
+fn rule_of(
+    alloc: Global,
+    definition: &Definition,
+    comment: Option<Txt>,
+) -> Result<Option<Rule>, AllocError>
+    requires { IsCommentOf (fixed_words_of definition.now) comment }
+{
+    let Some(token) = comment else {
+        return Ok(None);
+    };
+    let words = fixed_words(alloc, definition)?;
+    let lexis = Lexis::new(alloc, words.as_slice())?;
+    let rule = Rule::new(lexis, token);
+    Ok(Some(rule))
+}
+
 /// Reads the definition and accepts it, or returns the status with which the run ends.
-fn language_of<F: Files>(alloc: Global, file: &str, files: &mut F) -> Result<Language, u8> {
+fn language_of<F: Files>(alloc: Global, file: &str, files: &mut F) -> Result<Defined, u8> {
     let Ok(bytes) = files.read(alloc, file, MOST_BYTES) else {
         return Err(3);
     };
     let Ok(defined) = read_commented(alloc, bytes.as_slice()) else {
         return Err(6);
     };
+    let comment = defined.comment;
+    let Ok(rule) = rule_of(alloc, &defined.definition, comment) else {
+        return Err(5);
+    };
     match accept(alloc, defined.definition) {
-        Ok(language) => Ok(language),
+        Ok(language) => Ok(Defined { language, rule }),
         Err(_) => Err(7),
     }
 }
@@ -123,10 +156,14 @@ fn kind_in(language: &Language, name: &str) -> Option<Kind>
     }
 }
 
-/// Reads the file of the program, if it is there.
-fn bytes_of<F: Files>(alloc: Global, program: Option<&str>, files: &mut F) -> Option<Vec<u8>> {
+/// Reads the file of the program without its comments, if it is there.
+fn bytes_of<F: Files>(
+    alloc: Global,
+    program: Option<&str>,
+    files: &mut Keeping<F>,
+) -> Option<Vec<u8>> {
     match program {
-        Some(name) => match files.read(alloc, name, MOST_BYTES) {
+        Some(name) => match files.open(alloc, name, MOST_BYTES) {
             Ok(bytes) => Some(bytes),
             Err(_) => None,
         },
@@ -149,11 +186,11 @@ fn name_of(alloc: Global, program: Option<&str>) -> Result<Option<Txt>, AllocErr
 fn opened<F: Files, O: Sink, L: Ledger>(
     alloc: Global,
     words: &Words,
-    files: &mut F,
+    language: Language,
+    files: &mut Keeping<F>,
     out: &mut O,
     steps: &mut Steps<L>,
 ) -> Result<Tui, u8> {
-    let language = language_of(alloc, words.file, files)?;
     let Some(kind) = kind_in(&language, words.kind) else {
         return Err(2);
     };
@@ -181,10 +218,10 @@ fn tui_of(alloc: Global, words: &Words, session: Session, kind: Kind) -> Result<
 }
 
 /// Runs the editor, and returns the status.
-fn answer<F: Files, P: Pieces, O: Sink, L: Ledger>(
+fn answer<F: Files + Drop, P: Pieces, O: Sink, L: Ledger>(
     alloc: Global,
     words: &[String],
-    files: &mut F,
+    mut files: F,
     input: &mut P,
     out: &mut O,
     ledger: Blank,
@@ -196,12 +233,17 @@ fn answer<F: Files, P: Pieces, O: Sink, L: Ledger>(
     let Some(words) = words_of(words) else {
         return 2;
     };
+    let defined = match language_of(alloc, words.file, &mut files) {
+        Ok(defined) => defined,
+        Err(status) => return status,
+    };
+    let mut files = Keeping::new(files, defined.rule);
     let mut steps = Steps::<L>::of(ledger);
-    let mut tui = match opened(alloc, &words, files, out, &mut steps) {
+    let mut tui = match opened(alloc, &words, defined.language, &mut files, out, &mut steps) {
         Ok(tui) => tui,
         Err(status) => return status,
     };
-    match run(alloc, &mut tui, files, input, out, &mut steps) {
+    match run(alloc, &mut tui, &mut files, input, out, &mut steps) {
         Ending::Done => 0,
         Ending::ReadFault => 3,
         Ending::WriteFault => 4,
@@ -217,13 +259,13 @@ fn main(rt: HostRuntime) -> ExitCode {
     let Ok(words) = words.skip(1).collect::<Vec<String>>(alloc) else {
         return ExitCode::from(5);
     };
-    let mut files = HostFiles::new(alloc, &rt);
+    let files = HostFiles::new(alloc, &rt);
     let mut input = ReaderPieces::new(alloc, rt.reader());
     let mut out = HostSink::new(&rt);
     let status = answer::<_, _, _, Brand>(
         alloc,
         words.as_slice(),
-        &mut files,
+        files,
         &mut input,
         &mut out,
         Blank::new(1),

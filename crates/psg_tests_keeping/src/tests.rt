@@ -1,0 +1,2 @@
+//! Texts that are opened and replaced.
+mod texts;
