@@ -196,7 +196,7 @@ told_plain encoding text (Some h) d is =
 told_at_plain : (def : Definition) (kind : Kind) (encoding : Encoding) (text : List ℕ) (comments : List Comment) (judged : List ℕ)
     (position : Position) (d : Data) → IsToldAt def kind encoding text comments judged position d → has_float d ≡ false
 told_at_plain def kind encoding text comments judged position d (told_in_comment byte is inside e) = ap has_float e
-told_at_plain def kind encoding text comments judged position d (told_there byte hover is outside hovered so) =
+told_at_plain def kind encoding text comments judged position d (told_there byte hover is outside says so) =
     told_plain encoding text hover d so
 
 hover_plain : (def : Defined) (kind : Kind) (encoding : Encoding) (text : Option (List ℕ)) (position : Position) (d : Data)
