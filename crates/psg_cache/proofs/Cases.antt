@@ -50,8 +50,8 @@ nothing-changed = refl
 closed : diff_of three (ended false three) ≡ 4
 closed = refl
 
--- an element less, by places: the elements at 1, and all cells, and the one without a partner
-shorter : diff_of three (removed 1 three) ≡ 2 + (2 + 3)
+-- an element less, by places: the element at 1, and all cells
+shorter : diff_of three (removed 1 three) ≡ 2 + 3
 shorter = refl
 
 -- an element more at the front, by places

@@ -33,6 +33,7 @@ pub mod PairLaws
 pub mod AlikeLaws
 pub mod RenoteLaws
 pub mod WorkLaws
+pub mod LeastLaws
 pub mod SpreadLaws
 pub mod JoinLaws
 pub mod ExchangeLaws

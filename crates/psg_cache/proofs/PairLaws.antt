@@ -340,7 +340,7 @@ pairs_parts (observed f) g sf sg e = absurd sf
 
 -- ---- the elements of a list
 
-works_list : (f : Fragment) → IsReal f → IsList f → together (children_of f) ≡ works_of f
+pub works_list : (f : Fragment) → IsReal f → IsList f → together (children_of f) ≡ works_of f
 works_list (ending l u) is list = omega arith
 works_list (cell l e r) is list =
     let h = works_list r is.1 is.2 in omega (arith, h, sum_by-cons work_of e (children_of r))
@@ -474,7 +474,7 @@ spine_of (cell l e r) o is top = absurd (none-some o top)
 spine_of anything o is top = absurd (none-some o top)
 spine_of (observed f) o is top = absurd is
 
-list_of_kind : (f : Fragment) (l : ℕ) → list_number f ≡ Some l → (IsList f) × (top_operator f ≡ None)
+pub list_of_kind : (f : Fragment) (l : ℕ) → list_number f ≡ Some l → (IsList f) × (top_operator f ≡ None)
 list_of_kind (ending k u) l e = (tt, refl)
 list_of_kind (cell k d r) l e = (tt, refl)
 list_of_kind (hole p) l e = absurd (none-some l e)

@@ -46,15 +46,15 @@ diff_with old new below =
     (cond (same_some (list_number old) (list_number new)) (below + diff_cells old new)
     (work_of new)))
 
--- The sum over the children of an operator, or over the elements of two lists at the same places and those of either
--- list without a partner. Parts of an operator are at the same places, since they are those of its items.
+-- The sum over the children of an operator, or over the elements of two lists at the same places and those of the new
+-- list without a partner. Those of the old list without a partner are not evaluated. Parts of an operator are at the
+-- same places, since they are those of its items.
 abbrev pub diff_below : Fragment → Fragment → ℕ
 diff_below (with_child f t) (with_child g u) = diff_below f g + diff_with t u (diff_below t u)
 diff_below (with_name f n) (with_name g m) = diff_below f g
 diff_below (with_number f n) (with_number g m) = diff_below f g
 diff_below (with_text f t) (with_text g u) = diff_below f g
 diff_below (cell l e r) (cell k d s) = diff_with e d (diff_below e d) + diff_below r s
-diff_below (cell l e r) (ending k v) = works_of (cell l e r)
 diff_below (ending l u) (cell k d s) = works_of (cell k d s)
 diff_below _ _ = 0
 

@@ -1,6 +1,7 @@
 //! What is reported about the blamed places of a program.
 ghost use Rattle.std.specs.Prelude.{◌≡◌, ◌<◌, ◌++◌, ◌∷◌, ◌⊎◌, ◌↔◌, [], ℕ, Bool, IfOk, List, OnOk, Some, false, length};
 ghost use Rattle.std.specs.Prelude.{slice_get, take, true};
+ghost use Rattle.psg_cache.specs.Notes.{IsNoteOf};
 ghost use Rattle.psg_completions.specs.Conditions.{HasTrueRows};
 ghost use Rattle.psg_grammar.specs.Open.{IsOpen};
 ghost use Rattle.psg_grammar.specs.Paths.{Path as PlainPath};
@@ -27,9 +28,9 @@ use crate::hints::{OtherName, better_without, other_name};
 use crate::messages::{message_of, use_message};
 use crate::suspects::{blamed_in, push_some, tell_suspects};
 use crate::trials::{Judged, Wrong, is_blamed};
-use psg_cache::NoteFault;
+use psg_cache::{Note, NoteFault};
 use psg_places::{
-    BlameFault, Blamed, MOST_BLAMED, Place, all_places, blame, opened_places, path_back,
+    BlameFault, Blamed, MOST_BLAMED, Place, all_places, blame_noted, opened_places, path_back,
 };
 use psg_recover::finding::{Finding, error, plain_error};
 use psg_terms::Steps;
@@ -561,15 +562,18 @@ fn tell_fault(
     }
 }
 
-/// Adds what is wrong in the program, which has no completion, and says whether more may follow.
+/// Adds what is wrong in the program, which has no completion, and says whether more may follow. The search is made
+/// beside the note of the program.
 pub(crate) fn tell_wrong<L: Ledger>(
     alloc: Global,
     judged: Judged,
+    note: &Note,
     found: &mut Vec<Finding>,
     steps: &mut Steps<L>,
 ) -> Result<bool, AllocError>
     requires judged { IsJudged judged }
     requires rows { HasTrueRows judged.definition.now }
+    requires note { IsNoteOf judged.definition.now judged.tree.now note.now }
     requires wrong { IsOpen judged.definition.now judged.tree.now → ⊥ }
     ensures { IfOk result (λ more. (r : Read) → IsSpotsOf judged.entry.spots r → (told : List Told)
         × (found.new.items ≡ found.old.items ++ told)
@@ -577,7 +581,9 @@ pub(crate) fn tell_wrong<L: Ledger>(
         × AreWrong judged.entry.definition.now judged.entry.text.now judged.entry.tree.now r limited told
         more)) }
 {
-    match blame(alloc, judged.definition, judged.tables, judged.tree, steps) {
+    let definition = judged.definition;
+    let tables = judged.tables;
+    match blame_noted(alloc, definition, tables, note, judged.tree, steps) {
         Ok(answer) => {
             let more = tell_answer(alloc, judged, answer, found, steps)?;
             Ok(more)

@@ -63,16 +63,18 @@ fn tell_good<L: Ledger>(
     Ok(())
 }
 
-/// Adds what is wrong in the program, if it has no completion, and says whether more may follow.
+/// Adds what is wrong in the program, which has the note, if it has no completion, and says whether more may follow.
 fn tell_if_wrong<L: Ledger>(
     alloc: Global,
     judged: Judged,
+    note: &Note,
     good: bool,
     found: &mut Vec<Finding>,
     steps: &mut Steps<L>,
 ) -> Result<bool, AllocError>
     requires judged { IsJudged judged }
     requires rows { HasTrueRows judged.definition.now }
+    requires note { IsNoteOf judged.definition.now judged.tree.now note.now }
     requires good { (good ≡ true → IsOpen judged.definition.now judged.tree.now)
         × (IsOpen judged.definition.now judged.tree.now → good ≡ true) }
     ensures { IfOk result (λ more. (r : Read) → IsSpotsOf judged.entry.spots r → (told : List Told)
@@ -84,7 +86,7 @@ fn tell_if_wrong<L: Ledger>(
     if good {
         return Ok(false);
     }
-    let more = tell_wrong(alloc, judged, found, steps)?;
+    let more = tell_wrong(alloc, judged, note, found, steps)?;
     Ok(more)
 }
 
@@ -113,7 +115,7 @@ fn tell_noted<L: Ledger>(
         tell_good(alloc, judged, note, found, steps)?;
         return Ok(false);
     }
-    let more = tell_if_wrong(alloc, judged, good, found, steps)?;
+    let more = tell_if_wrong(alloc, judged, note, good, found, steps)?;
     tell_free(alloc, judged.tree, judged.spots, found)?;
     Ok(more)
 }

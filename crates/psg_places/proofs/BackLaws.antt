@@ -1,5 +1,5 @@
 -- Each node of the tree of the kept places is one of the whole tree, where its path back leads.
-use Rattle.std.proofs.Common.{◌≡◌, ◌⊎◌, inl, inr, ℕ, zero, suc, ◌+◌, ◌-◌, ◌<◌, ◌≤◌, ◌&&◌, ◌||◌, Bool, true, false, cond, List, [], ◌∷◌, ◌++◌, length, Option, Some, None, slice_get, refl, ap, ap₂, sym, ◌∙◌, subst, arith, true≢false, append_assoc, append-nil}
+use Rattle.std.proofs.Common.{◌≡◌, inl, inr, ℕ, ◌+◌, ◌-◌, ◌≤◌, ◌&&◌, ◌||◌, Bool, true, false, cond, List, [], ◌∷◌, ◌++◌, length, Option, Some, None, slice_get, refl, ap, ap₂, sym, ◌∙◌, arith, true≢false, append_assoc, append-nil}
 use Rattle.std.specs.Prelude.{nat_eq, nat_lt}
 use Rattle.std.proofs.lemmas.Bool.{and_parts, cases_lt, eqb-true, lt-ltb, ltb-true}
 use Rattle.std.proofs.lemmas.Option.{option_and_then_some, slice_get_within}
@@ -17,7 +17,7 @@ use Rattle.psg_places.specs.Leading.{LeadsBack, gone_of, is_node, is_opened_at}
 use Rattle.psg_places.specs.Listings.{opened_among}
 use Rattle.psg_places.specs.Opened.{contents, opened}
 use Rattle.psg_places.specs.Places.{below, content_places, phylum_of}
-use Rattle.psg_places.specs.Ways.{IsBack, covers, earlier, goes_past, goes_through, is_covered, is_left_out, moved, there_of}
+use Rattle.psg_places.specs.Ways.{covers, earlier, goes_past, goes_through, is_covered, is_left_out, moved}
 use Rattle.psg_places.proofs.InsideLaws.{Deep, IsParts, deep_count, each_opened, is_out, parts_deep}
 use Rattle.psg_places.proofs.ThereLaws.{There, list_count, or_parts_false, path_own, reads_below, there_by}
 use Rattle.psg_places.proofs.WalkLaws.{IsShaped, child_step, no_child, node_below, not_out, parts_length, shaped, shaped_child, top_there}

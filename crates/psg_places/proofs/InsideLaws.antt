@@ -1,5 +1,5 @@
 -- Where the places of a part of a tree are: below the path of the part.
-use Rattle.std.proofs.Common.{◌≡◌, ℕ, zero, suc, ◌+◌, ◌<◌, ◌≤◌, ◌&&◌, ◌||◌, not, Bool, true, false, cond, List, [], ◌∷◌, ◌++◌, length, refl, ap, ap₂, sym, ◌∙◌, subst, arith, true≢false, append_assoc, append-nil, length-append}
+use Rattle.std.proofs.Common.{◌≡◌, ℕ, suc, ◌+◌, ◌<◌, ◌≤◌, ◌&&◌, ◌||◌, not, Bool, true, false, cond, List, [], ◌∷◌, ◌++◌, length, refl, ap, ap₂, ◌∙◌, subst, arith, append_assoc, length-append}
 use Rattle.std.specs.Prelude.{nat_eq, nat_lt}
 use Rattle.std.specs.Cmp.Lexicographic.{pointwise}
 use Rattle.std.specs.List.{list_any}
@@ -15,7 +15,7 @@ use Rattle.psg_places.specs.Blame.{kept_in}
 use Rattle.psg_places.specs.Leading.{is_node, is_opened_at}
 use Rattle.psg_places.specs.Listings.{opened_among}
 use Rattle.psg_places.specs.Places.{below, child_places, content_places, declared_places, element_places, has_no_placeholder}
-use Rattle.psg_places.specs.Places.{is_hole, may_go_on, names_before}
+use Rattle.psg_places.specs.Places.{is_hole, may_go_on}
 use Rattle.psg_places.specs.Ways.{earlier, goes_before, is_earlier}
 
 -- ---- what holds of each place

@@ -19,6 +19,7 @@ pub mod StepLaws
 pub mod FallingLaws
 pub mod WorkLaws
 pub mod SearchLaws
+pub mod ClimbLaws
 pub mod WayLaws
 pub mod InsideLaws
 pub mod ThereLaws

@@ -1,5 +1,5 @@
 -- What the walks over parts and elements make, step by step.
-use Rattle.std.proofs.Common.{◌≡◌, ℕ, zero, suc, ◌+◌, ◌<◌, ◌≤◌, ◌||◌, ◌&&◌, not, Bool, true, false, cond, List, [], ◌∷◌, ◌++◌, length, take, drop, get_or, slice_get, refl, ap, ap₂, sym, ◌∙◌, arith}
+use Rattle.std.proofs.Common.{◌≡◌, ℕ, zero, suc, ◌+◌, ◌<◌, ◌≤◌, ◌||◌, ◌&&◌, not, Bool, true, false, cond, List, [], ◌∷◌, ◌++◌, length, take, drop, get_or, slice_get, refl, ap, ap₂, sym, ◌∙◌, arith, true≢false}
 use Rattle.std.specs.Prelude.{option_and_then}
 use Rattle.std.proofs.lemmas.List.{drop_all}
 use Rattle.psg_terms.proofs.Lists.{take_item, drop_item}
@@ -15,8 +15,8 @@ use Rattle.psg_places.specs.declared.opening.Keeping.{Keeping}
 use Rattle.psg_places.specs.declared.opening.Opened.{Opened}
 use Rattle.psg_places.specs.declared.opening.OpenedPart.{OpenedPart}
 use Rattle.psg_places.specs.Places.{declared_count, declares_by, content_count, has_no_placeholder, is_hole, is_list, may_go_on, operator_of, phylum_in, phylum_of}
-use Rattle.psg_places.specs.Openings.{cells, child_at, contents_at, element_at, elements_declared, fixed_declared, free_at, keep, part_at}
-use Rattle.psg_places.specs.Openings.{IsOpenedElement, IsOpenedPart, OpenTo, own_size, part_declared, part_places}
+use Rattle.psg_places.specs.Openings.{cells, child_at, contents_at, element_at, elements_declared, elements_size, fixed_declared, free_at, keep, part_at}
+use Rattle.psg_places.specs.Openings.{IsOpenedElement, IsOpenedMember, IsOpenedPart, OpenTo, own_size, part_declared, part_places}
 
 -- ---- the top of a tree
 
@@ -139,6 +139,56 @@ module _ (def : Definition) where
       n ∙ ap₂ (λ a b. a + b) so_far (e ∙ ap (λ b. part_declared def b x) item) ∙ sym (declared_with F x)
       ∙ ap (declared_count def) (sym (ap (with_parts (operator o)) (take_item all i x lt at)
       ∙ parts_push (operator o) (take i all) x))
+
+  -- the places of parts, counted one after the other
+  abbrev pub Contained : ℕ → List Part → ℕ → Type 0
+  Contained o done total = total ≡ content_count def (with_parts (operator o) done)
+
+  pub contained_next : (o : ℕ) (all : List Part) (i : ℕ) (x : Part) (declares : Bool) (total own next : ℕ)
+      → i < length all → x ≡ get_or all i x → Contained o (take i all) total
+      → declares ≡ is_declares (slice_get (items_of (operator_at def o)) i) → own ≡ part_places def declares x
+      → next ≡ total + own → Contained o (take (i + 1) all) next
+  contained_next o all i x declares total own next lt at so_far d e n =
+      let F = with_parts (operator o) (take i all) in
+      let long : length (take i all) ≡ i = length_taken i all (omega (arith, lt)) in
+      let item : declares ≡ is_declares (next_item def F) =
+      d ∙ sym (ap is_declares (next_of_parts def o (take i all)
+      ∙ ap (slice_get (items_of (operator_at def o))) long)) in
+      n ∙ ap₂ (λ a b. a + b) so_far (e ∙ ap (λ b. part_places def b x) item) ∙ sym (content_with F x)
+      ∙ ap (content_count def) (sym (ap (with_parts (operator o)) (take_item all i x lt at)
+      ∙ parts_push (operator o) (take i all) x))
+
+  pub sizes_more : (free : Bool) (all : List Fragment) (i : ℕ) (x : Fragment) (total own next : ℕ) → i < length all
+      → x ≡ get_or all i x → total + elements_size def free (drop i all) ≡ elements_size def free all
+      → own ≡ own_size def free x → next ≡ total + own
+      → next + elements_size def free (drop (i + 1) all) ≡ elements_size def free all
+  sizes_more free all i x total own next lt at so_far e n =
+      let step : elements_size def free (drop i all) ≡ own_size def free x + elements_size def free (drop (i + 1) all) =
+      ap (elements_size def free) (drop_item all i x lt at) in
+      omega (arith, so_far, e, n, step)
+
+  pub sizes_all : (free : Bool) (all : List Fragment) (i total : ℕ) → length all ≤ i
+      → total + elements_size def free (drop i all) ≡ elements_size def free all → total ≡ elements_size def free all
+  sizes_all free all i total le h =
+      let none : elements_size def free (drop i all) ≡ 0 = ap (elements_size def free) (drop_all i all le) in
+      omega (arith, h, none)
+
+  list_sizes : (free : Bool) (l : ℕ) (es : List Fragment) (u : Bool) → free ≡ may_go_on def l
+      → elements_size def free es + cond (free && not u) 1 0 ≡ content_count def (list_of l es u)
+  list_sizes free l [] u e =
+      let z : 0 + cond (free && not u) 1 0 ≡ cond (free && not u) 1 0 = omega arith in
+      z ∙ ap (λ b. cond (b && not u) 1 0) e
+  list_sizes free l (x ∷ es) u e =
+      let more = list_sizes free l es u e in
+      let own : own_size def free x ≡ own_size def (may_go_on def l) x = ap (λ b. own_size def b x) e in
+      let sum : own_size def free x + elements_size def free es + cond (free && not u) 1 0
+      ≡ own_size def (may_go_on def l) x + content_count def (list_of l es u) = omega (arith, more, own) in sum
+
+  pub list_contents : (free : Bool) (l : ℕ) (es : List Fragment) (u : Bool) (own last all : ℕ) → free ≡ may_go_on def l
+      → own ≡ elements_size def free es → last ≡ cond (free && not u) 1 0 → all ≡ own + last
+      → all ≡ content_count def (list_of l es u)
+  list_contents free l es u own last all e is la to =
+      to ∙ ap₂ (λ a b. a + b) is la ∙ list_sizes free l es u e
 
   pub elements_more : (all : List Fragment) (i : ℕ) (x : Fragment) (total own next : ℕ) → i < length all
       → x ≡ get_or all i x → total + elements_declared def (drop i all) ≡ elements_declared def all
@@ -289,10 +339,27 @@ module _ (k : Keeping) where
   declared_cell free l x rest u may =
       ap (λ b. cond b 0 (fixed_declared k.definition.now x) + declared_count k.definition.now (list_of l rest u)) may
 
+  pub member_kept : (free kept : Bool) (d n : ℕ) (e : Fragment) (o : Opened) → IsOpenedElement k free d n e o
+      → IsOpenedMember k free kept d n e o
+  member_kept free kept d n e o h = record { tree = λ in_it. h.tree; declared = h.declared; others = h.others }
+
+  pub member_left : (free kept : Bool) (d n : ℕ) (e : Fragment) (o : Opened) → kept ≡ (not free || keep k n)
+      → kept ≡ false → (o.declared ≡ 0) × (o.others ≡ own_size k.definition.now true e)
+      → IsOpenedMember k free kept d n e o
+  member_left true kept d n e o is out h =
+      record { tree = λ in_it. absurd (true≢false (sym in_it ∙ out)); declared = h.0; others = h.1 }
+  member_left false kept d n e o is out h = absurd (true≢false (sym is ∙ out))
+
+  -- the tree of an element is needed only where it is kept
+  member_tree : (kept : Bool) (l : ℕ) (made : List Fragment) (x y R : Fragment) → (kept ≡ true → y ≡ x)
+      → cells l made (cond kept (cell l x R) R) ≡ cells l made (cond kept (cell l y R) R)
+  member_tree true l made x y R h = ap (λ t. cells l made (cell l t R)) (sym (h refl))
+  member_tree false l made x y R h = refl
+
   pub elements_next : (free : Bool) (d n : ℕ) (es : List Fragment) (x : Fragment) (rest made longer : List Fragment)
       (dec own over next : ℕ) (o : Opened) (kept : Bool) (more_dec more_own : ℕ)
       → OpenTo k free d n es made dec own (x ∷ rest) → over ≡ d + dec → next ≡ n + own
-      → IsOpenedElement k free over next x o → kept ≡ (not free || keep k next)
+      → IsOpenedMember k free kept over next x o → kept ≡ (not free || keep k next)
       → longer ≡ made ++ cond kept (o.tree ∷ []) [] → more_dec ≡ dec + o.declared → more_own ≡ own + o.others
       → OpenTo k free d n es longer more_dec more_own rest
   elements_next free d n es x rest made longer dec own over next o kept more_dec more_own h ov nx is kp lg md mo l u may =
@@ -310,8 +377,8 @@ module _ (k : Keeping) where
             ∙ ap₂ (λ a b. cells l made (contents_at k a b (cell l x r))) (sym ov) (sym nx)
             ∙ ap (cells l made) (cell_is free over next l x r may)
             ∙ ap (λ t. cells l made (cond (not free || keep k next) (cell l (element_at k free over next x) t) t)) rest_is
-            ∙ ap (λ t. cells l made (cond (not free || keep k next) (cell l t R) R)) (sym is.tree)
-            ∙ ap (λ b. cells l made (cond b (cell l o.tree R) R)) (sym kp)
+            ∙ ap (λ b. cells l made (cond b (cell l (element_at k free over next x) R) R)) (sym kp)
+            ∙ member_tree kept l made (element_at k free over next x) o.tree R is.tree
             ∙ sym (cells_kept l made kept o.tree R)
             ∙ ap (λ xs. cells l xs R) (sym lg);
         declared =

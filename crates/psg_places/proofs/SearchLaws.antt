@@ -9,7 +9,9 @@ use Rattle.psg_grammar.specs.Fragments.{Fragment}
 use Rattle.psg_grammar.specs.Open.{IsOpen}
 use Rattle.psg_completions.specs.Conditions.{HasTrueRows}
 use Rattle.psg_places.specs.declared.halving.Found.{Found}
-use Rattle.psg_places.specs.Answers.{HasMore, IsMost, IsNextFound, next_tree, trials_work, with_found}
+use Rattle.std.specs.List.{AllByRecursion}
+use Rattle.psg_cache.specs.Diff.{diff_of}
+use Rattle.psg_places.specs.Answers.{HasMore, IsMost, IsNextFound, beside_work, next_tree, trials_work, with_found}
 use Rattle.psg_places.specs.Blame.{AreAllAnswers, IsFalling, IsNoneWhereGood, blamed_in, kept_in, kept_of_first, most_blamed, none_kept}
 use Rattle.psg_places.specs.NewNames.{new_name}
 use Rattle.psg_places.specs.Opened.{opened}
@@ -211,19 +213,45 @@ spent_fault h len places blamed start now w later (inl spent) lt few more =
 
 -- ---- halving
 
--- after some of h trials, when the most is at least `low` and less than `high`
-pub record IsHalved (h low high start now w : ℕ) : Type 0 where
+-- after some of h trials beside a tree, when the most is at least `low` and less than `high`
+pub record IsHalved (IsTree : Fragment → Type 0) (o : Fragment) (h low high start now w : ℕ) : Type 0 where
   pub made : ℕ
   pub left : ℕ
   pub all : made + left ≡ h
   pub spent : now ≤ start + trials_work made w
   pub near : high ≤ low + 2 ^ left
+  pub trees : List Fragment
+  pub many : length trees ≤ made
+  pub each : AllByRecursion IsTree trees
+  pub taken : now ≤ start + beside_work o trees
 
-pub halved_first : (h high start w : ℕ) → high ≤ 2 ^ h → IsHalved h 0 high start start w
-halved_first h high start w le = record { made = 0; left = h; all = omega arith; spent = omega arith; near = omega (arith, le) }
+taken_more : (a b start now later : ℕ) → now ≤ start + b → later ≤ now + a → later ≤ start + (a + b)
+taken_more a b start now later h k = omega (arith, h, k)
 
-pub halved_end : (h low high start now w : ℕ) → IsHalved h low high start now w → now ≤ start + trials_work h w
-halved_end h low high start now w s =
+pub halved_first : (IsTree : Fragment → Type 0) (o : Fragment) (h high start w : ℕ) → high ≤ 2 ^ h
+    → IsHalved IsTree o h 0 high start start w
+halved_first IsTree o h high start w le = record {
+  made = 0;
+  left = h;
+  all = omega arith;
+  spent = omega arith;
+  near = omega (arith, le);
+  trees = [];
+  many = omega arith;
+  each = tt;
+  taken = omega arith;
+}
+
+-- the trees that were tried
+pub halved_trees : (IsTree : Fragment → Type 0) (o : Fragment) (h low high start now w : ℕ)
+    → IsHalved IsTree o h low high start now w
+    → (trees : List Fragment) × (length trees ≤ h) × AllByRecursion IsTree trees
+    × (now ≤ start + beside_work o trees)
+halved_trees IsTree o h low high start now w s = (s.trees, omega (arith, s.many, s.all), s.each, s.taken)
+
+pub halved_end : (IsTree : Fragment → Type 0) (o : Fragment) (h low high start now w : ℕ)
+    → IsHalved IsTree o h low high start now w → now ≤ start + trials_work h w
+halved_end IsTree o h low high start now w s =
     let m = more_trials s.made h w (omega (arith, s.all)) in omega (arith, m, s.spent)
 
 -- the left number of trials is not 0 as long as there is a number between
@@ -231,10 +259,11 @@ some_left : (left low high : ℕ) → low + 1 < high → high ≤ low + 2 ^ left
 some_left zero low high wide near = absurd (let one : 2 ^ 0 ≡ 1 = refl in omega (arith, wide, near, one))
 some_left (suc j) low high wide near = let e : 2 ^ suc j ≡ 2 ^ j + 2 ^ j = two-pow-succ j in (j, refl, omega (arith, near, e))
 
-pub halved_more : (h low high middle start now later w : ℕ) (b : Bool) → IsHalved h low high start now w → low + 1 < high
-    → ((v : ℕ) → high ≤ low + (v + v) → (middle ≤ low + v) × (high ≤ middle + v)) → later ≤ now + w
-    → IsHalved h (cond b middle low) (cond b high middle) start later w
-halved_more h low high middle start now later w b s wide half more =
+pub halved_more : (IsTree : Fragment → Type 0) (o t : Fragment) (h low high middle start now later w : ℕ) (b : Bool)
+    → IsHalved IsTree o h low high start now w → low + 1 < high
+    → ((v : ℕ) → high ≤ low + (v + v) → (middle ≤ low + v) × (high ≤ middle + v)) → later ≤ now + w → IsTree t
+    → later ≤ now + diff_of o t → IsHalved IsTree o h (cond b middle low) (cond b high middle) start later w
+halved_more IsTree o t h low high middle start now later w b s wide half more tree climb =
     let (j, is, near) = some_left s.left low high wide s.near in
     let (lower, upper) = half (2 ^ j) near in
     let e : trials_work (suc s.made) w ≡ w + trials_work s.made w = one_trial s.made (suc s.made) w (omega arith) in
@@ -244,15 +273,19 @@ halved_more h low high middle start now later w b s wide half more =
       all = omega (arith, s.all, is);
       spent = omega (arith, s.spent, more, e);
       near = pick b lower upper;
+      trees = t ∷ s.trees;
+      many = omega (arith, s.many);
+      each = (tree, s.each);
+      taken = taken_more (diff_of o t) (beside_work o s.trees) start now later s.taken climb;
     } where
       pick : (b : Bool) → middle ≤ low + 2 ^ (some_left s.left low high wide s.near).0 → high ≤ middle + 2 ^ (some_left s.left low high wide s.near).0
           → cond b high middle ≤ cond b middle low + 2 ^ (some_left s.left low high wide s.near).0
       pick true lower upper = upper
       pick false lower upper = lower
 
-pub halved_fault : (h low high start now later w : ℕ) → IsHalved h low high start now w → low + 1 < high → later ≤ now + w
-    → later ≤ start + trials_work h w
-halved_fault h low high start now later w s wide more =
+pub halved_fault : (IsTree : Fragment → Type 0) (o : Fragment) (h low high start now later w : ℕ)
+    → IsHalved IsTree o h low high start now w → low + 1 < high → later ≤ now + w → later ≤ start + trials_work h w
+halved_fault IsTree o h low high start now later w s wide more =
     let (j, is, near) = some_left s.left low high wide s.near in
     let e : trials_work (suc s.made) w ≡ w + trials_work s.made w = one_trial s.made (suc s.made) w (omega arith) in
     let m = more_trials (suc s.made) h w (omega (arith, s.all, is)) in
@@ -388,6 +421,15 @@ module _ (def : Definition) (front : Name) (f : Fragment) where
     none = λ e. absurd (true≢false (sym blamed ∙ e));
     one = λ e. (omega (arith, all, more, h.below), subst (λ n. IsOpen def (next_tree def front kept (n + 1) f) → ⊥) (sym more) h.bad);
   }
+
+  -- where nothing is blamed they are all
+  pub found_ends : (kept next : List Bool) (found : Found) → IsNextFound def front f kept found
+      → next ≡ with_found kept found → found.blamed ≡ false → length next ≡ place_count def f
+  found_ends kept next found n is e =
+      let long : length next ≡ length kept + found.more + cond found.blamed 1 0 = ap length is ∙ found_length kept found in
+      let o : ◌≡◌ {A = ℕ} (cond found.blamed 1 0) 0 = ap (λ c. cond c 1 0) e in
+      let l = n.none e in
+      omega (arith, long, o, l)
 
   -- the answers become longer
   pub found_grows : (kept next : List Bool) (found : Found) → length kept < place_count def f → IsNextFound def front f kept found

@@ -1,33 +1,31 @@
 -- A node of a tree is in the tree of the kept places where its path there leads.
-use Rattle.std.proofs.Common.{◌≡◌, ◌⊎◌, inl, inr, ℕ, zero, suc, ◌+◌, ◌-◌, ◌<◌, ◌≤◌, ◌&&◌, ◌||◌, not, Bool, true, false, cond, List, [], ◌∷◌, ◌++◌, length, Option, Some, None, slice_get, refl, ap, ap₂, sym, ◌∙◌, subst, arith, true≢false, append_assoc, append-nil, length-append}
-use Rattle.std.specs.Prelude.{nat_eq, nat_lt}
-use Rattle.std.specs.Option.{option_and_then}
+use Rattle.std.proofs.Common.{◌≡◌, ◌⊎◌, inl, inr, ℕ, zero, suc, ◌+◌, ◌-◌, ◌<◌, ◌≤◌, ◌&&◌, ◌||◌, not, Bool, true, false, cond, List, [], ◌∷◌, ◌++◌, length, Some, slice_get, refl, ap, ap₂, sym, ◌∙◌, subst, arith, true≢false, append_assoc, append-nil}
+use Rattle.std.specs.Prelude.{nat_eq}
 use Rattle.std.specs.Cmp.Lexicographic.{pointwise}
-use Rattle.std.specs.List.{list_any, starts_with}
-use Rattle.std.proofs.lemmas.Bool.{cases_lt, eqb-true, lt-ltb}
+use Rattle.std.specs.List.{list_any}
+use Rattle.std.proofs.lemmas.Bool.{lt-ltb}
 use Rattle.std.proofs.lemmas.List.Folds.{list_any-append}
-use Rattle.std.proofs.lemmas.Option.{none-some, option_and_then_some, same_Some, slice_get_within}
+use Rattle.std.proofs.lemmas.Option.{same_Some, slice_get_within}
 use Rattle.psg_terms.specs.Names.{Name as Word}
-use Rattle.psg_terms.proofs.Lists.{eqb-refl, slice_get-end, slice_get-end_is, slice_get-front, slice_get_once, slice_get_some}
+use Rattle.psg_terms.proofs.Lists.{eqb-refl}
 use Rattle.psg_grammar.specs.declared.types.Definition.{Definition}
 use Rattle.psg_grammar.specs.Fragments.{Fragment, hole, ending, cell, operator, with_child, with_name, with_number}
 use Rattle.psg_grammar.specs.Fragments.{with_text, anything, observed, children_of}
-use Rattle.psg_grammar.specs.Lookups.{is_declares, next_item}
-use Rattle.psg_grammar.specs.Paths.{Path, node_at}
+use Rattle.psg_grammar.specs.Paths.{Path}
 use Rattle.psg_places.specs.declared.place.Place.{Place}
-use Rattle.psg_places.specs.declared.place.Place.TheVariants.{Node, Element, End, Name}
+use Rattle.psg_places.specs.declared.place.Place.TheVariants.{Node, Element, End}
 use Rattle.psg_places.specs.Blame.{kept_in}
-use Rattle.psg_places.specs.Leading.{Becomes, LeadsThere, gone_of, is_node, is_opened_at}
+use Rattle.psg_places.specs.Leading.{is_node, is_opened_at}
 use Rattle.psg_places.specs.Listings.{opened_among}
-use Rattle.psg_places.specs.Opened.{contents, name_or_fresh, opened, opened_child, opened_element}
+use Rattle.psg_places.specs.Opened.{contents, opened_child, opened_element}
 use Rattle.psg_places.specs.Places.{below, child_places, content_count, content_places, declared_count, declared_places}
-use Rattle.psg_places.specs.Places.{element_places, element_size, has_no_placeholder, is_hole, may_go_on, names_before, phylum_of, places_of}
-use Rattle.psg_places.specs.Ways.{covers, earlier, goes_before, goes_into, goes_past, goes_through, is_covered, is_earlier, is_left_out, moved, takes_along, there_of}
+use Rattle.psg_places.specs.Places.{element_places, element_size, has_no_placeholder, is_hole, may_go_on, phylum_of}
+use Rattle.psg_places.specs.Ways.{earlier, goes_before}
 use Rattle.psg_places.proofs.CountLaws.{content_length, declared_length, element_length}
 use Rattle.psg_places.proofs.ListingLaws.{opened_both}
-use Rattle.psg_places.proofs.InsideLaws.{Any, Deep, Each, From, Inside, IsChain, IsParts, IsSmall, Only, Quiet, Under, child_deep, child_here}
-use Rattle.psg_places.proofs.InsideLaws.{contents_inside, deep_count, each_map, each_opened, each_cond, inside_more, element_all, inner_deep, inner_here, is_element, is_out, later_count}
-use Rattle.psg_places.proofs.InsideLaws.{list_from, names_small, not_itself, parts_deep, parts_under, quiet_beside, quiet_small}
+use Rattle.psg_places.proofs.InsideLaws.{Any, Deep, Each, From, Inside, IsChain, IsSmall, Only, Quiet, child_deep, child_here}
+use Rattle.psg_places.proofs.InsideLaws.{contents_inside, deep_count, each_map, each_opened, each_cond, inside_more, inner_deep, inner_here, is_element, is_out, later_count}
+use Rattle.psg_places.proofs.InsideLaws.{list_from, names_small, not_itself, quiet_beside, quiet_small}
 
 -- ---- tests over places one after the other
 

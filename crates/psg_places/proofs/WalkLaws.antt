@@ -1,8 +1,7 @@
 -- The path there of a node leads to what becomes of it in the tree of the kept places.
-use Rattle.std.proofs.Common.{◌≡◌, ◌⊎◌, inl, inr, ℕ, zero, suc, ◌+◌, ◌-◌, ◌<◌, ◌≤◌, ◌&&◌, ◌||◌, Bool, true, false, cond, List, [], ◌∷◌, ◌++◌, length, take, Option, Some, None, slice_get, option_and_then, refl, ap, ap₂, sym, ◌∙◌, subst, arith, true≢false, append_assoc, append-nil, length-append}
-use Rattle.std.specs.Prelude.{nat_eq, nat_lt}
+use Rattle.std.proofs.Common.{◌≡◌, inl, inr, ℕ, zero, suc, ◌+◌, ◌-◌, ◌<◌, ◌&&◌, ◌||◌, Bool, true, false, cond, List, [], ◌∷◌, ◌++◌, length, take, Option, Some, None, slice_get, option_and_then, refl, ap, ap₂, sym, ◌∙◌, subst, arith, true≢false, append_assoc, append-nil, length-append}
+use Rattle.std.specs.Prelude.{nat_eq}
 use Rattle.std.specs.Cmp.Lexicographic.{pointwise, same_text}
-use Rattle.std.specs.List.{list_any}
 use Rattle.std.proofs.lemmas.Bool.{cases_lt, lt-ltb}
 use Rattle.std.proofs.lemmas.Option.{none-some, option_and_then_some, same_Some, slice_get_within}
 use Rattle.psg_terms.specs.Names.{Name as Word}
@@ -23,10 +22,10 @@ use Rattle.psg_places.specs.declared.place.Place.TheVariants.{Node, Element, End
 use Rattle.psg_places.specs.Blame.{kept_in}
 use Rattle.psg_places.specs.Leading.{Becomes, LeadsThere, gone_of, is_node, is_opened_at}
 use Rattle.psg_places.specs.Listings.{opened_among}
-use Rattle.psg_places.specs.Opened.{contents, opened, opened_child, opened_element}
+use Rattle.psg_places.specs.Opened.{contents, opened, opened_child}
 use Rattle.psg_places.specs.Places.{below, child_places, content_count, content_places, declared_count, has_no_placeholder, is_hole}
-use Rattle.psg_places.specs.Places.{names_before, phylum_of, places_of}
-use Rattle.psg_places.specs.Ways.{covers, earlier, goes_into, goes_past, goes_through, is_covered, is_left_out, moved, takes_along, there_of}
+use Rattle.psg_places.specs.Places.{names_before, phylum_of}
+use Rattle.psg_places.specs.Ways.{covers, earlier, goes_into, goes_past, is_covered, is_left_out, moved, takes_along}
 use Rattle.psg_places.proofs.CountLaws.{content_length}
 use Rattle.psg_places.proofs.ListingLaws.{opened_both}
 use Rattle.psg_places.proofs.InsideLaws.{Inside, IsChain, IsParts, IsSmall, Only, Under, Deep, child_here, contents_inside, deep_count, each_cond}

@@ -9,7 +9,10 @@ use Rattle.psg_grammar.specs.Legal.{IsCompletable}
 use Rattle.psg_grammar.specs.Open.{IsOpen}
 use Rattle.psg_grammar.specs.Printable.{IsPrintable}
 use Rattle.psg_completions.specs.Conditions.{HasTrueRows}
-use Rattle.psg_cache.specs.Notes.{IsNoteFault}
+use Rattle.std.specs.List.{AllByRecursion}
+use Rattle.psg_cache.specs.Annotated.{Annotated, tree_in}
+use Rattle.psg_cache.specs.Diff.{diff_of}
+use Rattle.psg_cache.specs.Notes.{IsNoteFault, IsNoteOf}
 use Rattle.psg_cache.specs.declared.note.NoteFault.{NoteFault}
 use Rattle.psg_cache.specs.declared.note.NoteFault.TheVariants as faults
 use Rattle.psg_grammar.specs.declared.types.Kind.{Kind}
@@ -85,9 +88,18 @@ abbrev pub trials_work : ℕ → ℕ → ℕ
 trials_work zero work = 0
 trials_work (suc n) work = work + trials_work n work
 
--- the tree of the kept places, and whether it is good
+-- both trees are of one kind
+abbrev pub IsBeside : Definition → Fragment → Fragment → Type 0
+IsBeside def old new = (kind : Kind) × WellFormed def old kind × WellFormed def new kind
+
+-- the note is right, and its tree may take the place of the whole tree
+pub record IsNear (def : Definition) (f : Fragment) (n : Annotated) : Type 0 where
+  pub noted : IsNoteOf def (tree_in n) n
+  pub kinds : (kind : Kind) → WellFormed def f kind → WellFormed def (tree_in n) kind
+
+-- the note of the tree of the kept places, and whether it is good
 pub record IsTrial (def : Definition) (front : Name) (kept : List Bool) (f : Fragment) (t : Trial) : Type 0 where
-  pub tree : t.tree ≡ opened def (kept_in kept) (new_name front) f
+  pub note : IsNoteOf def (opened def (kept_in kept) (new_name front) f) t.note
   pub count : t.places ≡ place_count def f
   pub small : place_count def f < 2 ^ 64
   pub opens : (t.good ≡ true) ↔ IsOpen def (opened def (kept_in kept) (new_name front) f)
@@ -134,3 +146,56 @@ pub record IsNextFound (def : Definition) (front : Name) (f : Fragment) (kept : 
 abbrev pub blamed_by : Option Blamed → ℕ
 blamed_by None = 0
 blamed_by (Some b) = blamed_in b.kept
+
+-- ---- what the trials take
+
+-- the evaluations of trials, each of which is made beside the one tree
+abbrev pub beside_work : Fragment → List Fragment → ℕ
+beside_work old [] = 0
+beside_work old (t ∷ ts) = diff_of old t + beside_work old ts
+
+-- the tree that keeps all places after some answers, and the trees that keep fewer of these
+pub record Round : Type 0 where
+  pub all : Fragment
+  pub fewer : List Fragment
+
+-- the tree of the last round, where the last one is first in the list
+abbrev pub latest : Fragment → List Round → Fragment
+latest old [] = old
+latest old (r ∷ rs) = r.all
+
+-- The evaluations of rounds: the tree that keeps all is made beside that of the round before, and those that keep fewer
+-- are made beside it.
+abbrev pub rounds_work : Fragment → List Round → ℕ
+rounds_work old [] = 0
+rounds_work old (r ∷ rs) = rounds_work old rs + (diff_of (latest old rs) r.all + beside_work r.all r.fewer)
+
+-- the tree of the answers and of some of the next places
+abbrev pub IsNextTree : Definition → Name → Fragment → List Bool → Fragment → Type 0
+IsNextTree def front f kept t = (more : ℕ) × (t ≡ next_tree def front kept more f)
+
+-- The trees of a round are those of some answers. At most so many keep fewer than all the next places.
+pub record IsRound (def : Definition) (front : Name) (f : Fragment) (most : ℕ) (r : Round) : Type 0 where
+  pub kept : List Bool
+  pub left : ℕ
+  pub whole : length kept + left ≡ place_count def f
+  pub all : r.all ≡ next_tree def front kept left f
+  pub fewer : AllByRecursion (IsNextTree def front f kept) r.fewer
+  pub few : length r.fewer ≤ most
+
+-- the evaluations of so many rounds at most, of which the first is made beside the old tree
+pub record AreRounds (def : Definition) (front : Name) (f old : Fragment) (most many from to : ℕ) : Type 0 where
+  pub rounds : List Round
+  pub count : length rounds ≤ many
+  pub each : AllByRecursion (IsRound def front f most) rounds
+  pub taken : to ≤ from + rounds_work old rounds
+
+-- The evaluations of a search: first those of the tree that keeps nothing, then those of rounds, of which there are one
+-- more than blamed places. `first` counts those of the tree that keeps nothing, and `base` is the tree that the first
+-- round is made beside.
+pub record IsSearch (def : Definition) (f : Fragment) (first : Fragment → ℕ) (base : Fragment → Fragment)
+    (most blamed from to : ℕ) : Type 0 where
+  pub names : Name
+  pub middle : ℕ
+  pub nothing : middle ≤ from + first (opened def (kept_in []) (new_name names) f)
+  pub rounds : AreRounds def names f (base (opened def (kept_in []) (new_name names) f)) most (1 + blamed) middle to

@@ -67,6 +67,11 @@ own_size def free e = cond free
     (child_size def e (content_count def e)))
     (child_size def e (content_count def e))
 
+-- of elements
+abbrev pub elements_size : Definition → Bool → List Fragment → ℕ
+elements_size def free [] = 0
+elements_size def free (e ∷ rest) = own_size def free e + elements_size def free rest
+
 -- ---- the trees
 
 -- the elements, and then the rest of their list
@@ -147,6 +152,12 @@ module _ (k : Keeping) where
 
   pub record IsOpenedElement (free : Bool) (d n : ℕ) (e : Fragment) (o : Opened) : Type 0 where
     pub tree : o.tree ≡ element_at free d n e
+    pub declared : o.declared ≡ cond free 0 (fixed_declared k.definition.now e)
+    pub others : o.others ≡ own_size k.definition.now free e
+
+  -- of an element that is left out no tree is made
+  pub record IsOpenedMember (free kept : Bool) (d n : ℕ) (e : Fragment) (o : Opened) : Type 0 where
+    pub tree : kept ≡ true → o.tree ≡ element_at free d n e
     pub declared : o.declared ≡ cond free 0 (fixed_declared k.definition.now e)
     pub others : o.others ≡ own_size k.definition.now free e
 

@@ -1,13 +1,15 @@
 //! The search for the places that can't be kept.
-ghost use Rattle.std.specs.Prelude.{ℕ, ◌≡◌, ◌+◌, ◌*◌, ◌^◌, ◌<◌, ◌≤◌, ◌↔◌, length, IfErr, IfOk, IsTrue};
-ghost use Rattle.psg_cache.specs.Notes.{AreTables, IsFormed};
+ghost use Rattle.std.specs.Prelude.{ℕ, ◌≡◌, ◌+◌, ◌*◌, ◌^◌, ◌<◌, ◌≤◌, ◌↔◌, [], length, IfErr, IfOk, IsTrue};
+ghost use Rattle.psg_cache.specs.Annotated.{tree_in};
+ghost use Rattle.psg_cache.specs.Diff.{diff_of};
+ghost use Rattle.psg_cache.specs.Notes.{AreTables, IsFormed, IsNoteOf};
 ghost use Rattle.psg_completions.specs.Conditions.{HasTrueRows};
 ghost use Rattle.psg_grammar.specs.Legal.{IsCompletable};
 ghost use Rattle.psg_grammar.specs.Open.{IsOpen};
 ghost use Rattle.psg_grammar.specs.Sound.{IsSound};
 ghost use Rattle.psg_grammar.specs.Work.{work_of};
-ghost use Rattle.psg_places.specs.Answers.{IsBlame, IsBlameFault, blamed_by, trials_work};
-ghost use Rattle.psg_places.specs.Blame.{AreAllAnswers, blamed_in, most_blamed, none_kept};
+ghost use Rattle.psg_places.specs.Answers.{AreRounds, IsBlame, IsBlameFault, IsNear, IsSearch, blamed_by, trials_work};
+ghost use Rattle.psg_places.specs.Blame.{AreAllAnswers, blamed_in, kept_in, most_blamed, none_kept};
 ghost use Rattle.psg_places.specs.NewNames.{IsFront, new_name};
 ghost use Rattle.psg_places.specs.Opened.{opened};
 ghost use Rattle.psg_places.specs.Places.{place_count};
@@ -16,7 +18,8 @@ use crate::fault::BlameFault;
 use crate::fronts::front_of;
 use crate::halving::{add_found, next_found};
 use crate::numbers::one_if;
-use crate::trial::{kept_tree, tried};
+use crate::trial::{kept_tree, nothing_noted, tried};
+use psg_cache::Note;
 use psg_eval::Tables;
 use psg_grammar::Definition;
 use psg_terms::{Seq, Steps, Txt};
@@ -47,7 +50,9 @@ pub struct Blamed {
 ///
 /// The search halves: it tries all places that are left. If these can't be kept together, it finds by halving the most
 /// of them that can, and the place after these is blamed. So it makes two trials, and for each blamed place one and as
-/// many as the number of places can be halved. Each trial is an evaluation of a whole tree, which `steps` counts.
+/// many as the number of places can be halved. The first trial evaluates a whole tree. Each other one evaluates what
+/// its tree has not in common with that of the last trial in which all places that were left were kept; before there is
+/// one, with that of the first trial. `steps` counts the evaluations.
 ///
 /// A fault is that of the tree with nothing kept, or of the kept places so far and some of the next ones.
 pub fn blame<L: Ledger>(
@@ -66,6 +71,8 @@ pub fn blame<L: Ledger>(
         → IfOk result (IsBlame (IsCompletable definition.now) definition.now tree.now) }
     ensures fault { IfErr result (IsBlameFault definition.now tree.now) }
     // 2 ^ h is no less than the number of places
+    ensures climbs { IfOk result (λ found. (h : ℕ) → place_count definition.now tree.now ≤ 2 ^ h
+        → IsSearch definition.now tree.now work_of (λ nothing. nothing) h (blamed_by found) steps.old steps.new) }
     ensures trials { IfOk result (λ found. (h : ℕ) → place_count definition.now tree.now ≤ 2 ^ h
         → steps.new ≤ steps.old + trials_work (2 + blamed_by found * (1 + h)) (work_of tree.now)) }
     // whatever it answers
@@ -73,8 +80,75 @@ pub fn blame<L: Ledger>(
         → steps.new ≤ steps.old + trials_work (2 + most_blamed * (1 + h)) (work_of tree.now) }
 {
     let front = front_of(alloc, definition, tree)?;
+    let nothing = nothing_noted(alloc, definition, tables, &front, tree, steps)?;
+    searched(alloc, definition, tables, front, &nothing, tree, steps)
+}
+
+/// Finds which places of the tree are blamed, as `blame` does, for a tree that has a note. No trial evaluates again what
+/// its tree has in common with the whole tree, or with the last one in which all places that were left were kept.
+pub fn blame_noted<L: Ledger>(
+    alloc: Global,
+    definition: &Definition,
+    tables: &Tables,
+    note: &Note,
+    tree: &Tree,
+    steps: &mut Steps<L>,
+) -> Result<Option<Blamed>, BlameFault>
+    requires sound { IsSound definition.now }
+    requires tables { AreTables definition.now tables.now }
+    requires note { IsNoteOf definition.now tree.now note.now }
+    ensures open { HasTrueRows definition.now
+        → IfOk result (IsBlame (IsOpen definition.now) definition.now tree.now) }
+    ensures completable { HasTrueRows definition.now
+        → IfOk result (IsBlame (IsCompletable definition.now) definition.now tree.now) }
+    ensures fault { IfErr result (IsBlameFault definition.now tree.now) }
+    // 2 ^ h is no less than the number of places
+    ensures climbs { IfOk result (λ found. (h : ℕ) → place_count definition.now tree.now ≤ 2 ^ h
+        → IsSearch definition.now tree.now (diff_of tree.now) (λ nothing. tree.now) h (blamed_by found) steps.old
+        steps.new) }
+    ensures trials { IfOk result (λ found. (h : ℕ) → place_count definition.now tree.now ≤ 2 ^ h
+        → steps.new ≤ steps.old + trials_work (2 + blamed_by found * (1 + h)) (work_of tree.now)) }
+    // whatever it answers
+    ensures ticks { (h : ℕ) → place_count definition.now tree.now ≤ 2 ^ h
+        → steps.new ≤ steps.old + trials_work (2 + most_blamed * (1 + h)) (work_of tree.now) }
+{
+    let front = front_of(alloc, definition, tree)?;
+    searched(alloc, definition, tables, front, note, tree, steps)
+}
+
+/// Finds which places of the tree are blamed. The first trials are made beside the note.
+fn searched<L: Ledger>(
+    alloc: Global,
+    definition: &Definition,
+    tables: &Tables,
+    front: Txt,
+    old: &Note,
+    tree: &Tree,
+    steps: &mut Steps<L>,
+) -> Result<Option<Blamed>, BlameFault>
+    requires sound { IsSound definition.now }
+    requires tables { AreTables definition.now tables.now }
+    requires formed { IsFormed definition.now tree.now }
+    requires front { IsFront definition.now tree.now front }
+    requires near { IsNear definition.now tree.now old.now }
+    ensures open { HasTrueRows definition.now
+        → IfOk result (IsBlame (IsOpen definition.now) definition.now tree.now) }
+    ensures completable { HasTrueRows definition.now
+        → IfOk result (IsBlame (IsCompletable definition.now) definition.now tree.now) }
+    ensures fault { IfErr result (IsBlameFault definition.now tree.now) }
+    ensures climbs { IfOk result (λ found. (h : ℕ) → place_count definition.now tree.now ≤ 2 ^ h → (middle : ℕ)
+        × (middle ≤ steps.old + diff_of (tree_in old.now) (opened definition.now (kept_in []) (new_name front) tree.now))
+        × AreRounds definition.now front tree.now (tree_in old.now) h (1 + blamed_by found) middle steps.new) }
+    ensures trials { IfOk result (λ found. (h : ℕ) → place_count definition.now tree.now ≤ 2 ^ h
+        → steps.new ≤ steps.old + (diff_of (tree_in old.now) (opened definition.now (kept_in []) (new_name front) tree.now)
+        + trials_work (1 + blamed_by found * (1 + h)) (work_of tree.now))) }
+    // whatever it answers
+    ensures ticks { (h : ℕ) → place_count definition.now tree.now ≤ 2 ^ h
+        → steps.new ≤ steps.old + (diff_of (tree_in old.now) (opened definition.now (kept_in []) (new_name front) tree.now)
+        + trials_work (1 + most_blamed * (1 + h)) (work_of tree.now)) }
+{
     let none = Vec::new(alloc);
-    let nothing = tried(alloc, definition, tables, &front, none, tree, steps)?;
+    let nothing = tried(alloc, definition, tables, &front, old, none, tree, steps)?;
     if !nothing.good {
         return Ok(None);
     }
@@ -83,6 +157,7 @@ pub fn blame<L: Ledger>(
         definition,
         tables,
         &front,
+        old,
         nothing.places,
         tree,
         steps,
@@ -103,12 +178,14 @@ fn is_due(kept: &[bool], places: usize, blamed: usize) -> bool
     kept.len() < places && blamed < MOST_BLAMED
 }
 
-/// Finds one blamed place after the other, until a hundred are found or none is left.
+/// Finds one blamed place after the other, until a hundred are found or none is left. The first trial is made beside
+/// the old note.
 fn answers<L: Ledger>(
     alloc: Global,
     definition: &Definition,
     tables: &Tables,
     front: &Txt,
+    old: &Note,
     places: usize,
     tree: &Tree,
     steps: &mut Steps<L>,
@@ -117,26 +194,34 @@ fn answers<L: Ledger>(
     requires tables { AreTables definition.now tables.now }
     requires formed { IsFormed definition.now tree.now }
     requires front { IsFront definition.now tree.now front.now }
+    requires near { IsNear definition.now tree.now old.now }
     requires count { places ≡ place_count definition.now tree.now }
     requires nothing { IsOpen definition.now (opened definition.now none_kept (new_name front.now) tree.now) }
     ensures open { HasTrueRows definition.now
         → IfOk result (λ kept. AreAllAnswers (IsOpen definition.now) definition.now (new_name front.now)
         tree.now kept.items) }
     ensures fault { IfErr result (IsBlameFault definition.now tree.now) }
+    ensures climbs { IfOk result (λ kept. (h : ℕ) → places ≤ 2 ^ h
+        → AreRounds definition.now front.now tree.now (tree_in old.now) h (1 + blamed_in kept.items) steps.old
+        steps.new) }
     ensures trials { IfOk result (λ kept. (h : ℕ) → places ≤ 2 ^ h
         → steps.new ≤ steps.old + trials_work (1 + blamed_in kept.items * (1 + h)) (work_of tree.now)) }
     // whatever it answers
     ensures ticks { (h : ℕ) → places ≤ 2 ^ h
         → steps.new ≤ steps.old + trials_work (1 + most_blamed * (1 + h)) (work_of tree.now) }
 {
+    let mut base = old.share()?;
     let mut kept = Vec::new(alloc);
     let mut blamed = 0;
     'places: while is_due(kept.as_slice(), places, blamed) {
         let done = kept.as_slice();
-        let found = next_found(alloc, definition, tables, front, done, places, tree, steps)?;
+        let found = next_found(
+            alloc, definition, tables, front, &base, done, places, tree, steps,
+        )?;
         add_found(&mut kept, &found)?;
         let more = one_if(found.blamed);
         blamed += more;
+        base = found.all;
     }
     Ok(kept)
 }

@@ -1,17 +1,22 @@
 //! The next blamed place: the most places that can be kept together after those before them, by halving.
 ghost use Rattle.std.specs.Prelude.{ℕ, ◌≡◌, ◌+◌, ◌^◌, ◌<◌, ◌≤◌, ◌++◌, ◌↔◌, true, false, cond, length, replicate, IfErr};
-ghost use Rattle.std.specs.Prelude.{IfOk, IsTrue, OnOk};
+ghost use Rattle.std.specs.Prelude.{IfOk, IsTrue, List, OnOk};
+ghost use Rattle.std.specs.List.{AllByRecursion};
+ghost use Rattle.psg_cache.specs.Annotated.{tree_in};
+ghost use Rattle.psg_cache.specs.Diff.{diff_of};
 ghost use Rattle.psg_cache.specs.Notes.{AreTables, IsFormed};
+ghost use Rattle.psg_grammar.specs.Fragments.{Fragment};
 ghost use Rattle.psg_grammar.specs.Open.{IsOpen};
 ghost use Rattle.psg_grammar.specs.Sound.{IsSound};
 ghost use Rattle.psg_grammar.specs.Work.{work_of};
-ghost use Rattle.psg_places.specs.Answers.{HasMore, IsBlameFault, IsMost, IsNextFound, next_tree, trials_work};
-ghost use Rattle.psg_places.specs.Answers.{with_found};
+ghost use Rattle.psg_places.specs.Answers.{HasMore, IsBlameFault, IsMost, IsNear, IsNextFound, IsNextTree, IsRound};
+ghost use Rattle.psg_places.specs.Answers.{Round, beside_work, next_tree, trials_work, with_found};
 ghost use Rattle.psg_places.specs.NewNames.{IsFront, new_name};
 ghost use Rattle.psg_places.specs.Places.{place_count};
 
 use crate::fault::BlameFault;
-use crate::trial::tried;
+use crate::trial::{Trial, tried};
+use psg_cache::Note;
 use psg_eval::Tables;
 use psg_grammar::Definition;
 use psg_terms::{Steps, Txt};
@@ -24,6 +29,8 @@ use std::sync::ledger::Ledger;
 pub(crate) struct Found {
     pub(crate) more: usize,
     pub(crate) blamed: bool,
+    /// The note of the tree in which all the next places are kept.
+    pub(crate) all: Note,
 }
 
 /// Adds that many answers that keep their places.
@@ -59,12 +66,47 @@ fn with_next(alloc: Global, kept: &[bool], more: usize) -> Result<Vec<bool>, All
     Ok(longer)
 }
 
+/// Tries that many of the next places together with those that are kept before them.
+fn next_trial<L: Ledger>(
+    alloc: Global,
+    definition: &Definition,
+    tables: &Tables,
+    front: &Txt,
+    old: &Note,
+    kept: &[bool],
+    more: usize,
+    tree: &Tree,
+    steps: &mut Steps<L>,
+) -> Result<Trial, BlameFault>
+    requires sound { IsSound definition.now }
+    requires tables { AreTables definition.now tables.now }
+    requires formed { IsFormed definition.now tree.now }
+    requires front { IsFront definition.now tree.now front.now }
+    requires near { IsNear definition.now tree.now old.now }
+    requires small { place_count definition.now tree.now < 2 ^ 64 }
+    requires more { HasMore definition.now (new_name front.now) tree.now kept.now more }
+    ensures open { IfOk result (λ t. (t.good ≡ true)
+        ↔ IsOpen definition.now (next_tree definition.now front.now kept.now more tree.now)) }
+    ensures near { IfOk result (λ t. IsNear definition.now tree.now t.note) }
+    ensures tree { IfOk result (λ t. tree_in t.note ≡ next_tree definition.now front.now kept.now more tree.now) }
+    ensures fault { IfErr result (IsBlameFault definition.now tree.now) }
+    // whatever it answers
+    ensures climb { steps.new ≤ steps.old
+        + diff_of (tree_in old.now) (next_tree definition.now front.now kept.now more tree.now) }
+    ensures ticks { steps.new ≤ steps.old + work_of tree.now }
+{
+    let next = with_next(alloc, kept, more)?;
+    let trial = tried(alloc, definition, tables, front, old, next, tree, steps)?;
+    Ok(trial)
+}
+
 /// Says whether that many of the next places can be kept together with those that are kept before them.
 fn keeps_next<L: Ledger>(
     alloc: Global,
     definition: &Definition,
     tables: &Tables,
     front: &Txt,
+    old: &Note,
     kept: &[bool],
     more: usize,
     tree: &Tree,
@@ -74,16 +116,20 @@ fn keeps_next<L: Ledger>(
     requires tables { AreTables definition.now tables.now }
     requires formed { IsFormed definition.now tree.now }
     requires front { IsFront definition.now tree.now front.now }
+    requires near { IsNear definition.now tree.now old.now }
     requires small { place_count definition.now tree.now < 2 ^ 64 }
     requires more { HasMore definition.now (new_name front.now) tree.now kept.now more }
     ensures open { IfOk result (λ good. (good ≡ true)
         ↔ IsOpen definition.now (next_tree definition.now front.now kept.now more tree.now)) }
     ensures fault { IfErr result (IsBlameFault definition.now tree.now) }
     // whatever it answers
+    ensures climb { steps.new ≤ steps.old
+        + diff_of (tree_in old.now) (next_tree definition.now front.now kept.now more tree.now) }
     ensures ticks { steps.new ≤ steps.old + work_of tree.now }
 {
-    let next = with_next(alloc, kept, more)?;
-    let trial = tried(alloc, definition, tables, front, next, tree, steps)?;
+    let trial = next_trial(
+        alloc, definition, tables, front, old, kept, more, tree, steps,
+    )?;
     let good = trial.good;
     Ok(good)
 }
@@ -119,6 +165,7 @@ fn most_kept<L: Ledger>(
     definition: &Definition,
     tables: &Tables,
     front: &Txt,
+    old: &Note,
     kept: &[bool],
     left: usize,
     tree: &Tree,
@@ -128,12 +175,16 @@ fn most_kept<L: Ledger>(
     requires tables { AreTables definition.now tables.now }
     requires formed { IsFormed definition.now tree.now }
     requires front { IsFront definition.now tree.now front.now }
+    requires near { IsNear definition.now tree.now old.now }
     requires small { place_count definition.now tree.now < 2 ^ 64 }
     requires more { HasMore definition.now (new_name front.now) tree.now kept.now left }
     requires good { IsOpen definition.now (next_tree definition.now front.now kept.now 0 tree.now) }
     requires bad { IsOpen definition.now (next_tree definition.now front.now kept.now left tree.now) → ⊥ }
     ensures most { IfOk result (IsMost definition.now front.now tree.now kept.now left) }
     ensures fault { IfErr result (IsBlameFault definition.now tree.now) }
+    ensures climbs { IfOk result (λ _. (h : ℕ) → left ≤ 2 ^ h → (trees : List Fragment) × (length trees ≤ h)
+        × AllByRecursion (IsNextTree definition.now front.now tree.now kept.now) trees
+        × (steps.new ≤ steps.old + beside_work (tree_in old.now) trees)) }
     // whatever it answers
     ensures ticks { (h : ℕ) → left ≤ 2 ^ h → steps.new ≤ steps.old + trials_work h (work_of tree.now) }
 {
@@ -141,7 +192,9 @@ fn most_kept<L: Ledger>(
     let mut high = left;
     'halves: while is_wide(low, high) {
         let middle = between(low, high);
-        let good = keeps_next(alloc, definition, tables, front, kept, middle, tree, steps)?;
+        let good = keeps_next(
+            alloc, definition, tables, front, old, kept, middle, tree, steps,
+        )?;
         let next_low = either(good, middle, low);
         let next_high = either(good, high, middle);
         low = next_low;
@@ -150,12 +203,14 @@ fn most_kept<L: Ledger>(
     Ok(low)
 }
 
-/// Finds how many of the next places are kept, and whether the place after these is blamed.
+/// Finds how many of the next places are kept, and whether the place after these is blamed. All that are left are tried
+/// beside the old note, and fewer of them beside the note of these.
 pub(crate) fn next_found<L: Ledger>(
     alloc: Global,
     definition: &Definition,
     tables: &Tables,
     front: &Txt,
+    old: &Note,
     kept: &[bool],
     places: usize,
     tree: &Tree,
@@ -165,23 +220,38 @@ pub(crate) fn next_found<L: Ledger>(
     requires tables { AreTables definition.now tables.now }
     requires formed { IsFormed definition.now tree.now }
     requires front { IsFront definition.now tree.now front.now }
+    requires near { IsNear definition.now tree.now old.now }
     requires count { places ≡ place_count definition.now tree.now }
     requires more { HasMore definition.now (new_name front.now) tree.now kept.now 1 }
     requires good { IsOpen definition.now (next_tree definition.now front.now kept.now 0 tree.now) }
+    ensures near { IfOk result (λ found. IsNear definition.now tree.now found.all) }
     ensures next { IfOk result (IsNextFound definition.now front.now tree.now kept.now) }
     ensures fault { IfErr result (IsBlameFault definition.now tree.now) }
+    ensures round { IfOk result (λ found. (h : ℕ) → places ≤ 2 ^ h → (r : Round)
+        × IsRound definition.now front.now tree.now h r × (tree_in found.all ≡ r.all)
+        × (steps.new ≤ steps.old + (diff_of (tree_in old.now) r.all + beside_work r.all r.fewer))) }
     ensures all { IfOk result (λ found. found.blamed ≡ false → steps.new ≤ steps.old + work_of tree.now) }
     // whatever it answers
     ensures ticks { (h : ℕ) → places ≤ 2 ^ h → steps.new ≤ steps.old + trials_work (1 + h) (work_of tree.now) }
 {
     let left = places - kept.len();
-    let good = keeps_next(alloc, definition, tables, front, kept, left, tree, steps)?;
-    if good {
+    let trial = next_trial(
+        alloc, definition, tables, front, old, kept, left, tree, steps,
+    )?;
+    if trial.good {
         return Ok(Found {
             more: left,
             blamed: false,
+            all: trial.note,
         });
     }
-    let more = most_kept(alloc, definition, tables, front, kept, left, tree, steps)?;
-    Ok(Found { more, blamed: true })
+    let all = trial.note;
+    let more = most_kept(
+        alloc, definition, tables, front, &all, kept, left, tree, steps,
+    )?;
+    Ok(Found {
+        more,
+        blamed: true,
+        all,
+    })
 }

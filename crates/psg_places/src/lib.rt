@@ -17,6 +17,7 @@
 #![tactic(auto)]
 
 mod blaming;
+mod containing;
 mod counting;
 mod declaring;
 mod fault;
@@ -32,7 +33,7 @@ mod trial;
 mod ways;
 mod words;
 
-pub use blaming::{Blamed, MOST_BLAMED, blame};
+pub use blaming::{Blamed, MOST_BLAMED, blame, blame_noted};
 pub use fault::BlameFault;
 pub use fronts::new_name;
 pub use listing::{all_places, blamed_places, opened_places};

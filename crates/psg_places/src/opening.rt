@@ -1,10 +1,11 @@
 //! Trees in which only some places are kept.
-ghost use Rattle.std.specs.Prelude.{◌≡◌, ◌||◌, ◌&&◌, ◌++◌, ◌∷◌, [], cond, not, IfOk, OnOk};
+ghost use Rattle.std.specs.Prelude.{◌≡◌, ◌||◌, ◌&&◌, ◌++◌, ◌∷◌, [], cond, not, true, IfOk, OnOk};
 ghost use Rattle.psg_tree.specs.Shapes.{list_of};
 ghost use Rattle.psg_places.specs.Openings as openings;
 ghost use Rattle.psg_places.specs.Openings.{IsKnown};
 ghost use Rattle.psg_places.specs.Blame.{kept_in};
 
+use crate::containing::free_contained;
 use crate::counting::{declared, goes_on, has_no_placeholder, is_declared, is_hole, phylum_at};
 use crate::fronts::new_name;
 use crate::numbers::{one_if, plus};
@@ -323,6 +324,43 @@ fn open_element(
     }
 }
 
+/// Counts the places of an element that is left out. The tree in the answer is not used.
+fn left_out(keeping: Keeping, tree: &Tree) -> Result<Opened, AllocError>
+    requires known { IsKnown keeping }
+    ensures { IfOk result (λ o. (o.declared ≡ 0) × (o.others ≡ openings.own_size keeping.entry.definition.now true tree.now)) }
+{
+    let others = free_contained(keeping, tree)?;
+    let same = tree.share()?;
+    Ok(Opened {
+        tree: same,
+        declared: 0,
+        others,
+    })
+}
+
+/// Opens an element that stays. The places of one that is left out are counted.
+#[cycle(open)]
+fn open_member(
+    alloc: Global,
+    keeping: Keeping,
+    free: bool,
+    kept: bool,
+    above: usize,
+    place: usize,
+    tree: &Tree,
+) -> Result<Opened, AllocError>
+    requires known { IsKnown keeping }
+    requires kept { kept ≡ (not free || kept_in keeping.keep.now place) }
+    ensures { IfOk result (openings.IsOpenedMember keeping.entry free kept above place tree.now) }
+{
+    if kept {
+        let element = open_element(alloc, keeping, free, above, place, tree)?;
+        return Ok(element);
+    }
+    let none = left_out(keeping, tree)?;
+    Ok(none)
+}
+
 /// Adds the tree where it is kept.
 fn push_kept(made: &mut Vec<Tree>, kept: bool, tree: Tree) -> Result<(), AllocError>
     ensures { OnOk result (made.new.items ≡ made.old.items ++ cond kept (tree ∷ []) []) }
@@ -359,10 +397,10 @@ fn open_elements(
     for i in 0..elements.len() {
         let over = plus(above, declared)?;
         let next = plus(place, others)?;
-        let opened = open_element(alloc, keeping, free, over, next, &elements[i])?;
+        let kept = stays(keeping.keep, free, next);
+        let opened = open_member(alloc, keeping, free, kept, over, next, &elements[i])?;
         let more_declared = plus(declared, opened.declared)?;
         let more_others = plus(others, opened.others)?;
-        let kept = stays(keeping.keep, free, next);
         push_kept(&mut made, kept, opened.tree)?;
         declared = more_declared;
         others = more_others;

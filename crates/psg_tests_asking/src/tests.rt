@@ -1,4 +1,4 @@
-//! Programs of MINI, and what is told of their places.
+//! Programs of MINI, and what is answered for their places.
 ghost use Rattle.std.specs.Prelude.{◌≡◌, true, IfOk, IfSome};
 ghost use Rattle.psg_cache.specs.Completed.{IsByCompletions};
 ghost use Rattle.psg_cache.specs.Notes.{IsNoteOf};

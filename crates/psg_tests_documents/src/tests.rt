@@ -53,7 +53,7 @@ const CHARACTERS: &[(usize, usize, usize)] = &[
     (0, 5, 8),
 ];
 
-/// Lines and columns of each byte of `MIXED`, which come back from the byte.
+/// Lines and columns of each byte of `MIXED`, and the byte of each.
 const PLACES: &[(usize, usize, usize)] = &[
     (0, 0, 0),
     (0, 1, 1),

@@ -339,7 +339,7 @@ fn names_are_typed(rt: HostRuntime) -> Result<(), Fail> {
     Ok(())
 }
 
-/// Returns what is typed after so many names and literals of the operator.
+/// Returns what is typed after that many names and literals of the operator.
 fn typed_after(alloc: Global, number: usize) -> Result<Option<Leaf>, AllocError> {
     let mut face = naming_face(alloc)?;
     face.leaf = number;
@@ -398,7 +398,7 @@ fn keys_lead(rt: HostRuntime) -> Result<(), Fail> {
     Ok(())
 }
 
-/// Returns a face of so many rows, of which this path is chosen.
+/// Returns a face with that number of rows, of which this path is chosen.
 fn face_at(alloc: Global, rows: u32, path: &str) -> Result<Face, AllocError> {
     let mut face = Face::new(alloc, rows, 80)?;
     let chosen = path_of(alloc, path)?;

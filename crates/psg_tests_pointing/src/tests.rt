@@ -1,4 +1,4 @@
-//! What is told of the node at a byte, and what may be put there.
+//! What is answered for the node at a byte, and what may be put there.
 ghost use Rattle.std.specs.Prelude.{◌≡◌, ◌<◌, IfOk, IfSome};
 ghost use Rattle.psg_grammar.specs.Kinds.{HasKind};
 
@@ -79,7 +79,7 @@ fn completion_text(alloc: Global, made: &Completion) -> Result<String, AllocErro
     Ok(text)
 }
 
-/// Returns what is told of the node at the byte.
+/// Returns the answer for the node at the byte.
 fn told<L: Ledger>(
     alloc: Global,
     language: &Language,
@@ -99,7 +99,7 @@ fn told<L: Ledger>(
     }
 }
 
-/// Returns what is told at the byte.
+/// Returns the answer at the byte.
 fn told_in(
     alloc: Global,
     language: &Language,
@@ -146,7 +146,7 @@ const WRONG: &str = "begin\n  var n : bool\ndo\n  n := true;\n  n := 1 + 2\nend"
 /// A program with a list without elements.
 const CALLED: &str = "begin\n  proc p() skip\ndo\n  call p()\nend";
 
-/// A program, a byte, and what is told of the node there.
+/// A program, a byte, and the answer for the node there.
 const HOVERS: &[(&str, usize, &str)] = &[
     (RIGHT, 0, "0-52 Stat: block|ok|"),
     (RIGHT, 28, "26-35 Stat: assign|ok|"),

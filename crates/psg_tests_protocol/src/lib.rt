@@ -1,4 +1,4 @@
-//! Worked frames: what is read of bytes that come by pieces. It has tests alone.
+//! Worked frames: what is read of bytes that arrive in pieces. It has tests alone.
 #![tactic(auto)]
 
 #[cfg(test)]

@@ -131,7 +131,7 @@ fn all_read(alloc: Global) -> Result<bool, AllocError> {
     Ok(right)
 }
 
-/// Says whether a header with so many lines and so long a line is read.
+/// Says whether a header with that many lines, and a line of that length, is read.
 fn is_read(alloc: Global, lines: usize, long: usize) -> Result<bool, AllocError> {
     let mut text = String::from_str(alloc, "Content-Length: 1\n")?;
     for _ in 0..lines {

@@ -247,7 +247,7 @@ fn reply_told<L: Ledger>(
     lines_text(alloc, reply)
 }
 
-/// Returns what is told.
+/// Returns what is answered.
 fn told<L: Ledger>(
     alloc: Global,
     known: Known,
@@ -334,7 +334,7 @@ const NAMED: &str = "begin\n  var n : int;\n  var found : bool\ndo\n  found := n
 /// A program in which a number is compared.
 const EQUAL: &str = "begin\n  var n : bool\ndo\n  n := ?Exp = 1\nend";
 
-/// A program, a path, a place of the list there, a question, its words, and what is told.
+/// A program, a path, a place of the list there, a question, its words, and the answer.
 type Row = (
     &'static str,
     &'static str,

@@ -16,7 +16,7 @@ const DRAWN: &[(&str, &str, &str)] = &[
         "abcdeg/x",
         "\x1B[1;6H\x1B[0mg\x1B[2;1Hx\x1B[?25l",
     ),
-    // wide characters: over narrow ones, and the other way round
+    // wide characters: over narrow ones, and narrow ones over them
     ("abcd/", "a変d/", "\x1B[1;2H\x1B[0m変\x1B[?25l"),
     ("a変d/", "abcd/", "\x1B[1;2H\x1B[0mbc\x1B[?25l"),
     ("変数/", "x変/", "\x1B[1;1H\x1B[0mx変 \x1B[?25l"),
@@ -39,7 +39,7 @@ const DRAWN: &[(&str, &str, &str)] = &[
     ("ab/", "xb/_", "\x1B[1;1H\x1B[0mx\x1B[?25h"),
 ];
 
-/// Makes the picture of 2 rows and so many columns that the words say.
+/// Makes the picture that the words say, of 2 rows and that many columns.
 fn picture(alloc: Global, words: &str, cols: u32) -> Result<Picture, AllocError> {
     let mut sketch = Sketch::new(alloc, 2, cols)?;
     let mut style = Style::plain();
@@ -75,7 +75,7 @@ fn all_drawn(alloc: Global) -> Result<bool, AllocError> {
     Ok(right)
 }
 
-/// Says whether a picture is drawn anew where the screen may show anything, and after a change of size.
+/// Says whether a whole picture is drawn where the screen may show anything, and after a change of size.
 fn drawn_anew(alloc: Global) -> Result<bool, AllocError> {
     let old = picture(alloc, "abcd/", 4)?;
     let new = picture(alloc, "a c/", 6)?;

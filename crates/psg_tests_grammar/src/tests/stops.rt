@@ -1,4 +1,4 @@
-//! How far rows of tokens begin a tree, and what may come after them.
+//! How far rows of tokens begin a tree, and which tokens may follow them.
 use super::languages::{expressions, tokens};
 use psg_grammar::Kind;
 use psg_parse::{Goal, ParseTable, reach};
@@ -125,7 +125,7 @@ fn tokens_begin_a_tree_up_to_their_stop(rt: HostRuntime) -> Result<(), Fail> {
     Ok(())
 }
 
-/// As a `Reading`, with texts, what may come after their first tokens, and whether those are a tree.
+/// As a `Reading`, with texts, which tokens may follow their first ones, and whether those are a tree.
 #[derive(Clone, Copy)]
 struct Going<'a> {
     minus: &'a str,

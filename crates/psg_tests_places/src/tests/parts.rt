@@ -168,7 +168,7 @@ fn ways(
     Ok(())
 }
 
-/// The names that an operator declares come before its other places, and a literal is none.
+/// The names that an operator declares are before its other places, and a literal is none.
 #[test]
 fn places(rt: HostRuntime) -> Result<(), Fail> {
     let rows = [

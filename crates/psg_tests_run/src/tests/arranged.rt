@@ -161,7 +161,7 @@ fn the_definition_then_the_script_then_the_layout_is_read(rt: HostRuntime) -> Re
     Ok(())
 }
 
-/// The rules, with a comment that makes them so many bytes long.
+/// The rules, with a comment that makes them that many bytes long.
 fn long_rules(alloc: Global, bytes: usize) -> Result<Vec<u8>, AllocError> {
     let mut rules = Vec::from_slice(alloc, RULES.as_bytes())?;
     rules.push(b'#')?;

@@ -109,7 +109,7 @@ fn programs_are_formatted(rt: HostRuntime) -> Result<(), Fail> {
     Ok(())
 }
 
-/// A statement, with spaces that make it so many bytes long.
+/// A statement, with spaces that make it that many bytes long.
 fn long_program(alloc: Global, bytes: usize) -> Result<Vec<u8>, AllocError> {
     let mut program = Vec::from_slice(alloc, "skip".as_bytes())?;
     for _ in program.len()..bytes {

@@ -2,14 +2,11 @@ use Rattle.std.proofs.Common.{true, false}
 use Rattle.psg_lint.proofs.WrongLaws.{is_sound}
 use Rattle.psg_lint.proofs.blaming.tell_wrong.Goals as goal
 
-pub blame-requires-clause-sound : goal.blame-requires-clause-sound
-blame-requires-clause-sound g c = is_sound c.args.judged c.requires.judged
+pub blame_noted-requires-clause-sound : goal.blame_noted-requires-clause-sound
+blame_noted-requires-clause-sound g c = is_sound c.args.judged c.requires.judged
 
-pub blame-requires-clause-tables : goal.blame-requires-clause-tables
-blame-requires-clause-tables g c = c.requires.judged.tables
-
-pub blame-requires-clause-formed : goal.blame-requires-clause-formed
-blame-requires-clause-formed g c = c.requires.judged.formed
+pub blame_noted-requires-clause-tables : goal.blame_noted-requires-clause-tables
+blame_noted-requires-clause-tables g c = c.requires.judged.tables
 
 pub tell_answer-requires-clause-answer : goal.tell_answer-requires-clause-answer
 tell_answer-requires-clause-answer g c = c.in-Ok.ensures.open c.requires.rows

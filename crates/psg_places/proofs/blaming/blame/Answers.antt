@@ -1,21 +1,11 @@
-use Rattle.std.proofs.Common.{◌≡◌, ◌↔◌, ◌∙◌, inl, true, ◌+◌, ◌*◌, ◌^◌, ◌≤◌, ap, sym, subst, arith}
-use Rattle.psg_grammar.specs.Legal.{IsCompletable}
-use Rattle.psg_grammar.specs.Open.{IsOpen}
-use Rattle.psg_grammar.specs.Printable.{IsPrintable}
-use Rattle.psg_grammar.specs.WellFormed.{WellFormed}
-use Rattle.psg_completions.proofs.Law.{open_or_completable}
-use Rattle.psg_places.specs.declared.fault.BlameFault.TheVariants.{Memory}
+use Rattle.std.proofs.Common.{◌+◌, ◌*◌}
 use Rattle.psg_grammar.specs.Work.{work_of}
-use Rattle.psg_places.specs.Answers.{IsBlameFault, trials_work}
-use Rattle.psg_places.specs.Blame.{AreAllAnswers, blamed_in, kept_in, most_blamed}
-use Rattle.psg_places.specs.NewNames.{new_name}
-use Rattle.psg_places.specs.Opened.{opened}
-use Rattle.psg_places.proofs.AnswerLaws.{hopeless, limit_fault, nothing_blamed, passed, repaired_good, start_good, was_false, was_true}
-use Rattle.psg_places.proofs.ForAllNames.{answers_for, completable_for_all, formed_new, open_for_all}
-use Rattle.psg_places.proofs.FormedLaws.{formed}
-use Rattle.psg_places.proofs.NewNameLaws.{all_new, is_name, is_short}
-use Rattle.psg_places.proofs.PrintLaws.{prints_by_places}
-use Rattle.psg_places.proofs.SearchLaws.{and_more, first_trial, same_answers}
+use Rattle.psg_places.specs.declared.fault.BlameFault.TheVariants.{Memory}
+use Rattle.psg_places.specs.Answers.{IsBlameFault}
+use Rattle.psg_places.specs.Blame.{most_blamed}
+use Rattle.psg_places.proofs.AnswerLaws.{passed}
+use Rattle.psg_places.proofs.ClimbLaws.{and_same, ok_same_trials, ok_search_anew}
+use Rattle.psg_places.proofs.SearchLaws.{first_trial}
 use Rattle.psg_places.proofs.blaming.blame.Goals as goal
 
 pub returns-in_err-front-clause-fault : goal.returns-in_err-front-clause-fault
@@ -24,161 +14,24 @@ returns-in_err-front-clause-fault g c =
 
 pub returns-in_err-nothing-clause-fault : goal.returns-in_err-nothing-clause-fault
 returns-in_err-nothing-clause-fault g c =
-    let def = c.args.definition.now in
-    let tree = c.args.tree.now in
-    passed (IsBlameFault def tree) _ c.in_err-nothing.field-0.0 c.from_residual-in_err-nothing.ensures.1
-    (limit_fault def c.in_ok-front.front c.new-none.result.items tree c.in_ok-front.ensures (inl c.new-none.ensures.items)
-    c.in_err-nothing.field-0.0 c.in_err-nothing.ensures.fault)
-
-pub returns-then-not-nothing-clause-open : goal.returns-then-not-nothing-clause-open
-returns-then-not-nothing-clause-open g c rows =
-    let def = c.args.definition.now in
-    let tree = c.args.tree.now in
-    let fresh = new_name c.in_ok-front.front in
-    let t = c.in_ok-nothing.ensures.trial in
-    let new = all_new def tree c.in_ok-front.front c.in_ok-front.ensures t.small in (
-      (fresh, new),
-      hopeless (IsOpen def) def fresh tree (open_for_all def tree) new c.in_ok-nothing.nothing.good
-          (was_false c.in_ok-nothing.nothing.good c.if-not-nothing.true)
-          (subst (λ xs. (c.in_ok-nothing.nothing.good ≡ true) ↔ IsOpen def (opened def (kept_in xs) fresh tree))
-          c.new-none.ensures.items t.opens),
-    )
-
-pub returns-then-not-nothing-clause-completable : goal.returns-then-not-nothing-clause-completable
-returns-then-not-nothing-clause-completable g c rows =
-    let def = c.args.definition.now in
-    let tree = c.args.tree.now in
-    let fresh = new_name c.in_ok-front.front in
-    let t = c.in_ok-nothing.ensures.trial in
-    let new = all_new def tree c.in_ok-front.front c.in_ok-front.ensures t.small in (
-      (fresh, new),
-      hopeless (IsCompletable def) def fresh tree
-          (completable_for_all def tree c.requires.sound rows c.requires.formed.0 c.requires.formed.1) new
-          c.in_ok-nothing.nothing.good (was_false c.in_ok-nothing.nothing.good c.if-not-nothing.true)
-          (subst (λ xs. (c.in_ok-nothing.nothing.good ≡ true) ↔ IsCompletable def (opened def (kept_in xs) fresh tree))
-          c.new-none.ensures.items (t.completable rows)),
-    )
-
-pub answers-requires-clause-count : goal.answers-requires-clause-count
-answers-requires-clause-count g c = c.in_ok-nothing.ensures.trial.count
-
-pub answers-requires-clause-nothing : goal.answers-requires-clause-nothing
-answers-requires-clause-nothing g c =
-    let def = c.args.definition.now in
-    let tree = c.args.tree.now in
-    let fresh = new_name c.in_ok-front.front in
-    start_good (IsOpen def) def fresh tree c.in_ok-nothing.nothing.good
-    (was_true c.in_ok-nothing.nothing.good c.if-not-nothing.false)
-    (subst (λ xs. (c.in_ok-nothing.nothing.good ≡ true) ↔ IsOpen def (opened def (kept_in xs) fresh tree))
-    c.new-none.ensures.items c.in_ok-nothing.ensures.trial.opens)
-
-pub returns-in_err-kept-clause-fault : goal.returns-in_err-kept-clause-fault
-returns-in_err-kept-clause-fault g c =
-    passed (IsBlameFault c.args.definition.now c.args.tree.now) _ c.in_err-kept.field-0.0
-    c.from_residual-in_err-kept.ensures.1 c.in_err-kept.ensures.fault
-
-pub returns-in_err-last-clause-fault : goal.returns-in_err-last-clause-fault
-returns-in_err-last-clause-fault g c =
-    passed (IsBlameFault c.args.definition.now c.args.tree.now) _ Memory c.from_residual-in_err-last.ensures.1 tt
-
-pub returns-clause-open : goal.returns-clause-open
-returns-clause-open g c rows =
-    let def = c.args.definition.now in
-    let tree = c.args.tree.now in
-    let front = c.in_ok-front.front in
-    let fresh = new_name front in
-    let small = c.in_ok-nothing.ensures.trial.small in
-    let new = all_new def tree front c.in_ok-front.ensures small in
-    let is = c.of.ensures in
-    let own = c.in_ok-kept.ensures.open rows in
-    let repaired = c.in_ok-last.ensures.tree ∙ ap (λ xs. opened def (kept_in xs) fresh tree) (c.as_slice-answered.ensures.value ∙ sym is) in
-    let plain = c.in_ok-last.ensures.tree ∙ ap (λ xs. opened def (kept_in xs) fresh tree) c.as_slice-answered.ensures.value in
-    record {
-      answers = λ other as_new.
-          answers_for (IsOpen def) def tree (open_for_all def tree) fresh other new as_new c.of.result
-          (subst (λ ks. AreAllAnswers (IsOpen def) def fresh tree ks) (sym is) own);
-      names = c.in_ok-front.ensures;
-      new = new;
-      repaired = repaired;
-      good = subst (IsOpen def) (sym plain) (repaired_good (IsOpen def) def fresh tree c.in_ok-kept.kept.items own);
-      formed = λ kind well.
-          subst (λ t. WellFormed def t kind) (sym plain)
-          (formed def c.requires.sound (kept_in c.in_ok-kept.kept.items) fresh (is_name def tree front c.in_ok-front.ensures)
-          tree kind well);
-      printable = λ h.
-          subst IsPrintable (sym plain)
-          (prints_by_places def (kept_in c.in_ok-kept.kept.items) fresh tree (is_short def tree front c.in_ok-front.ensures small) h);
-      whole = λ none.
-          plain ∙ nothing_blamed (IsOpen def) def fresh tree c.in_ok-kept.kept.items own (sym (ap blamed_in is) ∙ none);
-    }
-
-pub returns-clause-completable : goal.returns-clause-completable
-returns-clause-completable g c rows =
-    let def = c.args.definition.now in
-    let tree = c.args.tree.now in
-    let front = c.in_ok-front.front in
-    let fresh = new_name front in
-    let small = c.in_ok-nothing.ensures.trial.small in
-    let new = all_new def tree front c.in_ok-front.ensures small in
-    let all = completable_for_all def tree c.requires.sound rows c.requires.formed.0 c.requires.formed.1 in
-    let is = c.of.ensures in
-    let kind = c.requires.formed.0 in
-    let own = same_answers (IsOpen def) (IsCompletable def) def fresh tree c.in_ok-kept.kept.items
-    (λ k. open_or_completable def c.requires.sound rows (opened def k fresh tree) kind
-    (formed_new def tree c.requires.sound kind c.requires.formed.1 fresh new k)) (c.in_ok-kept.ensures.open rows) in
-    let repaired = c.in_ok-last.ensures.tree ∙ ap (λ xs. opened def (kept_in xs) fresh tree) (c.as_slice-answered.ensures.value ∙ sym is) in
-    let plain = c.in_ok-last.ensures.tree ∙ ap (λ xs. opened def (kept_in xs) fresh tree) c.as_slice-answered.ensures.value in
-    record {
-      answers = λ other as_new.
-          answers_for (IsCompletable def) def tree all fresh other new as_new c.of.result
-          (subst (λ ks. AreAllAnswers (IsCompletable def) def fresh tree ks) (sym is) own);
-      names = c.in_ok-front.ensures;
-      new = new;
-      repaired = repaired;
-      good = subst (IsCompletable def) (sym plain) (repaired_good (IsCompletable def) def fresh tree c.in_ok-kept.kept.items own);
-      formed = λ kind well.
-          subst (λ t. WellFormed def t kind) (sym plain)
-          (formed def c.requires.sound (kept_in c.in_ok-kept.kept.items) fresh (is_name def tree front c.in_ok-front.ensures)
-          tree kind well);
-      printable = λ h.
-          subst IsPrintable (sym plain)
-          (prints_by_places def (kept_in c.in_ok-kept.kept.items) fresh tree (is_short def tree front c.in_ok-front.ensures small) h);
-      whole = λ none.
-          plain ∙ nothing_blamed (IsCompletable def) def fresh tree c.in_ok-kept.kept.items own (sym (ap blamed_in is) ∙ none);
-    }
+    passed (IsBlameFault c.args.definition.now c.args.tree.now) _ c.in_err-nothing.field-0.0
+    c.from_residual-in_err-nothing.ensures.1 c.in_err-nothing.ensures.fault
 
 pub returns-in_err-nothing-clause-ticks : goal.returns-in_err-nothing-clause-ticks
 returns-in_err-nothing-clause-ticks g c h le =
-    first_trial (most_blamed * (1 + h)) (work_of c.args.tree.now) _ _ c.tried.ensures.ticks
-
-pub returns-then-not-nothing-clause-ticks : goal.returns-then-not-nothing-clause-ticks
-returns-then-not-nothing-clause-ticks g c h le =
-    first_trial (most_blamed * (1 + h)) (work_of c.args.tree.now) _ _ c.tried.ensures.ticks
-
-pub returns-then-not-nothing-clause-trials : goal.returns-then-not-nothing-clause-trials
-returns-then-not-nothing-clause-trials g c h le =
-    first_trial (0 * (1 + h)) (work_of c.args.tree.now) _ _ c.tried.ensures.ticks
-
-pub returns-in_err-kept-clause-ticks : goal.returns-in_err-kept-clause-ticks
-returns-in_err-kept-clause-ticks g c h le =
-    let few = subst (λ n. n ≤ 2 ^ h) (sym c.in_ok-nothing.ensures.trial.count) le in
-    and_more (most_blamed * (1 + h)) (work_of c.args.tree.now) _ _ _ c.tried.ensures.ticks (c.answers.ensures.ticks h few)
-
-pub returns-in_err-last-clause-ticks : goal.returns-in_err-last-clause-ticks
-returns-in_err-last-clause-ticks g c h le =
-    let few = subst (λ n. n ≤ 2 ^ h) (sym c.in_ok-nothing.ensures.trial.count) le in
-    and_more (most_blamed * (1 + h)) (work_of c.args.tree.now) _ _ _ c.tried.ensures.ticks (c.answers.ensures.ticks h few)
+    first_trial (most_blamed * (1 + h)) (work_of c.args.tree.now) _ _ c.nothing_noted.ensures.ticks
 
 pub returns-clause-ticks : goal.returns-clause-ticks
 returns-clause-ticks g c h le =
-    let few = subst (λ n. n ≤ 2 ^ h) (sym c.in_ok-nothing.ensures.trial.count) le in
-    and_more (most_blamed * (1 + h)) (work_of c.args.tree.now) _ _ _ c.tried.ensures.ticks (c.answers.ensures.ticks h few)
+    and_same (most_blamed * (1 + h)) (work_of c.args.tree.now) _ _ _ _ _ c.in_ok-nothing.ensures.note.tree
+    c.nothing_noted.ensures.ticks (c.searched.ensures.ticks h le)
 
 pub returns-clause-trials : goal.returns-clause-trials
-returns-clause-trials g c h le =
-    let W = work_of c.args.tree.now in
-    let few = subst (λ n. n ≤ 2 ^ h) (sym c.in_ok-nothing.ensures.trial.count) le in
-    let all = and_more (blamed_in c.in_ok-kept.kept.items * (1 + h)) W _ _ _ c.tried.ensures.ticks (c.in_ok-kept.ensures.trials h few) in
-    let same : trials_work (2 + blamed_in c.of.result * (1 + h)) W ≡ trials_work (2 + blamed_in c.in_ok-kept.kept.items * (1 + h)) W =
-    ap (λ ks. trials_work (2 + blamed_in ks * (1 + h)) W) c.of.ensures in
-    omega (arith, all, same)
+returns-clause-trials g c =
+    ok_same_trials c.searched.result _ _ _ _ _ _ _ c.in_ok-nothing.ensures.note.tree c.nothing_noted.ensures.ticks
+    c.searched.ensures.trials
+
+pub returns-clause-climbs : goal.returns-clause-climbs
+returns-clause-climbs g c =
+    ok_search_anew c.args.definition.now c.in_ok-front.front c.args.tree.now c.searched.result _ _ _ _ _
+    c.in_ok-nothing.ensures.note.tree c.nothing_noted.ensures.anew c.searched.ensures.climbs

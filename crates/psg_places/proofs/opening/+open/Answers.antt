@@ -20,10 +20,10 @@ open_contents-open_list-requires t c =
     let f = height-list_of 0 c.in-List.elements c.in-List.unfinished false in
     (omega arith, c.requires.known)
 
-pub open_elements-open_element-requires : goal.open_elements-open_element-requires
-open_elements-open_element-requires t c =
+pub open_elements-open_member-requires : goal.open_elements-open_member-requires
+open_elements-open_member-requires t c =
     let e = element_in 0 c.args.elements.now false c.loop-i.i c.index-elements-i.result c.loop-i-test.true c.index-elements-i.is in
-    (omega arith, c.requires.known)
+    (omega arith, (c.requires.known, c.stays-kept.ensures))
 
 pub open_elements-loop-i-preserved : goal.open_elements-loop-i-preserved
 open_elements-loop-i-preserved t c =

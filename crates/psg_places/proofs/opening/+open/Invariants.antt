@@ -6,34 +6,37 @@ use Rattle.psg_places.proofs.OpeningLaws.{PartsTo}
 use Rattle.psg_places.proofs.opening.+open.Given as goal
 
 abbrev pub decreases-open_part : goal.decreases-open_part
-decreases-open_part l = 9 * height (with_part (operator 0) l.part.now)
+decreases-open_part l = 10 * height (with_part (operator 0) l.part.now)
 
 abbrev pub decreases-open_parts : goal.decreases-open_parts
-decreases-open_parts l = 9 * height (with_parts (operator 0) l.parts.now) + 1
+decreases-open_parts l = 10 * height (with_parts (operator 0) l.parts.now) + 1
 
 abbrev pub decreases-open_elements : goal.decreases-open_elements
-decreases-open_elements l = 9 * height (list_of 0 l.elements.now false) + 1
+decreases-open_elements l = 10 * height (list_of 0 l.elements.now false) + 1
 
 abbrev pub decreases-open_list : goal.decreases-open_list
-decreases-open_list l = 9 * height (list_of 0 l.elements.now false) + 2
+decreases-open_list l = 10 * height (list_of 0 l.elements.now false) + 2
 
 abbrev pub decreases-open_contents : goal.decreases-open_contents
-decreases-open_contents l = 9 * height l.tree.now + 3
+decreases-open_contents l = 10 * height l.tree.now + 3
 
 abbrev pub decreases-open_both : goal.decreases-open_both
-decreases-open_both l = 9 * height l.tree.now + 4
+decreases-open_both l = 10 * height l.tree.now + 4
 
 abbrev pub decreases-open_node : goal.decreases-open_node
-decreases-open_node l = 9 * height l.tree.now + 5
+decreases-open_node l = 10 * height l.tree.now + 5
 
 abbrev pub decreases-open_child : goal.decreases-open_child
-decreases-open_child l = 9 * height l.tree.now + 6
+decreases-open_child l = 10 * height l.tree.now + 6
 
 abbrev pub decreases-open_free_element : goal.decreases-open_free_element
-decreases-open_free_element l = 9 * height l.tree.now + 7
+decreases-open_free_element l = 10 * height l.tree.now + 7
 
 abbrev pub decreases-open_element : goal.decreases-open_element
-decreases-open_element l = 9 * height l.tree.now + 8
+decreases-open_element l = 10 * height l.tree.now + 8
+
+abbrev pub decreases-open_member : goal.decreases-open_member
+decreases-open_member l = 10 * height l.tree.now + 9
 
 abbrev pub invariant-open_parts-loop-i : goal.invariant-open_parts-loop-i
 invariant-open_parts-loop-i l =
