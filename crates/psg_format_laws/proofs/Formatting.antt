@@ -61,6 +61,7 @@ module _ (def : Definition) (sound : IsSound def) (words : AllByRecursion IsFixe
     again : (new : List ℕ) → new ≡ with_notes (text_of def f) prints.printed_reads.tokens (notes_of text ts comments)
         → (others : List Comment) (own : List ℕ) → IsBlanked (fixed_words def) token new others own
         → IsPrintedAgain def token kind f prints.printed_reads.tokens new others own
+    unfolding back prints
     again new is others own blanked = record {
       program = record {
         nesting = prints.own_nesting;
