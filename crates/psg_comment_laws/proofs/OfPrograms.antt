@@ -24,10 +24,10 @@ use Rattle.psg_comment_laws.proofs.Weights.{same_count}
 
 module _ (def : Definition) (token : List ℕ) (fit : IsFit (fixed_words def) token) where
   module _ (kind : Kind) (f : Fragment) (text : List ℕ) (comments : List Comment) (bare : List ℕ) (ts : List Spanned) (printed : List ℕ) (p : PrintsProgram def token kind f text comments bare ts printed) where
-    abbrev shown : List Spanned
+    abbrev pub shown : List Spanned
     shown = p.printed_reads.tokens
 
-    printing : IsPrinting (fixed_words def) token text ts comments printed shown
+    pub printing : IsPrinting (fixed_words def) token text ts comments printed shown
     printing =
         let same : p.reads.tokens ≡ ts = only_tokens (fixed_words def) (chars bare) 0 p.reads.tokens ts p.reads.are p.are in
         let yields : Yields def f kind 0 p.nesting (tokens_of ts) =
