@@ -26,7 +26,7 @@ use crate::edits::{document_edits, null_value};
 use crate::fields::{address_in, encoding_in, position_in};
 use crate::hovering::document_hover;
 use crate::judging::Defined;
-use crate::methods::{Call, call_of, is_known, notice_of};
+use crate::methods::{Call, Notice, call_of, is_known, notice_of};
 use psg_documents::{Encoding, Position};
 use psg_grammar::Kind;
 use psg_messages::{

@@ -1,4 +1,4 @@
-use Rattle.std.proofs.Common.{◌++◌, ap, ◌∙◌, subst}
+use Rattle.std.proofs.Common.{◌≡◌, ◌++◌, List, ℕ, ap, ◌∙◌, subst}
 use Rattle.psg_comments.specs.Blanking.{IsBlanked}
 use Rattle.psg_server.specs.Judging.{mark_of}
 use Rattle.psg_server.proofs.judging.blank_text.Goals as goal
