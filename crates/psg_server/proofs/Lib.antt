@@ -4,7 +4,6 @@ mod DocumentLaws
 mod EditLaws
 mod FieldLaws
 mod HoverLaws
-mod JudgingLaws
 mod LinkingLaws
 mod ServeLaws
 mod TextLaws
