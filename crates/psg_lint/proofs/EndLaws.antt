@@ -221,7 +221,8 @@ number_of def anything kind is h = absurd is
 number_of def (observed f) kind is h = absurd is
 
 module _ (def : Definition) (sound : IsSound def) (f : Fragment) (path : Path) (l : Listed) (is : IsListThere def f path l) (formed : IsFormed def f) where
-  pub more_formed : declares def l.phylum ≡ false → IsFormed def (with_last f path l.phylum)
+  -- it is of the same kind
+  pub more_formed : declares def l.phylum ≡ false → WellFormed def (with_last f path l.phylum) formed.0
   more_formed calm =
       let k = is.is.kind in
       let known : k.element < length def.phyla = elements_in def sound (list_of (Some is.node)) k is.is.found in
@@ -239,7 +240,7 @@ module _ (def : Definition) (sound : IsSound def) (f : Fragment) (path : Path) (
       let own = number_of def is.node K is.is.is_list h in
       subst (WellFormed def (inserted (elements_of (node_at f path)) (hole l.phylum) is.node)) (sym own)
       (inserted_formed def (elements_of (node_at f path)) (hole l.phylum) is.node (list_of (Some is.node)) k (subst (WellFormed def is.node) own h) is.is.found new) in
-      (formed.0, changed_formed def (inserted (elements_of (node_at f path)) (hole l.phylum)) f formed.0 path is.node formed.1 is.there longer)
+      changed_formed def (inserted (elements_of (node_at f path)) (hole l.phylum)) f formed.0 path is.node formed.1 is.there longer
 
   pub last_there : (longer : Path) (place : ℕ) → place ≡ l.elements → longer ≡ path ++ place ∷ []
       → (node : Fragment) × (node_at (with_last f path l.phylum) longer ≡ Some node)

@@ -6,9 +6,11 @@ use Rattle.psg_grammar.specs.Fragments.{Fragment}
 use Rattle.psg_grammar.specs.Open.{IsOpen}
 use Rattle.psg_grammar.specs.Paths.{Path, change_at, node_at, removed}
 use Rattle.psg_grammar.specs.Sound.{IsSound}
-use Rattle.psg_cache.specs.Notes.{IsFormed}
+use Rattle.psg_cache.specs.Annotated.{tree_in as noted_tree}
+use Rattle.psg_cache.specs.Notes.{IsFormed, IsNoteOf}
 use Rattle.psg_cache.proofs.FormedTrees.{changed_formed, node_formed, removed_formed}
 use Rattle.psg_places.specs.declared.place.Place.{Place}
+use Rattle.psg_places.specs.Answers.{IsBeside}
 use Rattle.psg_places.specs.Blame.{AreAnswers, is_some_true, kept_in}
 use Rattle.psg_places.specs.Listings.{is_blamed, is_some_false}
 use Rattle.psg_places.specs.Opened.{opened}
@@ -25,20 +27,44 @@ use Rattle.psg_lint.specs.Judged.{IsJudged, IsWrong, def_of, fresh_of, tree_in}
 pub is_sound : (j : Judged) → IsJudged j → IsSound j.definition.now
 is_sound j h = subst IsSound h.same h.known.sound
 
-pub opened_formed : (w : Wrong) → IsWrong w → (kept : List Bool) (f : Fragment) → IsFormed (def_of w) f
-    → IsFormed (def_of w) (opened (def_of w) (kept_in kept) (fresh_of w) f)
-opened_formed w h kept f (kind, own) = (
+-- ---- the note of the program
+
+pub note_own : (w : Wrong) → IsWrong w → IsNoteOf (def_of w) (noted_tree w.note.now) w.note.now
+note_own w h = subst (λ t. IsNoteOf (def_of w) t w.note.now) (sym h.note.tree) h.note
+
+pub note_beside : (w : Wrong) → IsWrong w → (f : Fragment) → IsBeside (def_of w) (tree_in w) f
+    → IsBeside (def_of w) (noted_tree w.note.now) f
+note_beside w h f kinds = subst (λ t. IsBeside (def_of w) t f) (sym h.note.tree) kinds
+
+-- of a tree that is made
+pub made_beside : (w : Wrong) → IsWrong w → (f made : Fragment) → made ≡ f → IsBeside (def_of w) (tree_in w) f
+    → IsBeside (def_of w) (noted_tree w.note.now) made
+made_beside w h f made e kinds = note_beside w h made (subst (IsBeside (def_of w) (tree_in w)) (sym e) kinds)
+
+-- ---- trees of the program's kind
+
+pub beside_itself : (w : Wrong) → IsWrong w → IsBeside (def_of w) (tree_in w) (tree_in w)
+beside_itself w h = let (kind, own) = h.judged.formed in (kind, own, own)
+
+pub beside_formed : (w : Wrong) (f : Fragment) → IsBeside (def_of w) (tree_in w) f → IsFormed (def_of w) f
+beside_formed w f (kind, whole, own) = (kind, own)
+
+pub opened_beside : (w : Wrong) → IsWrong w → (kept : List Bool) (f : Fragment) → IsBeside (def_of w) (tree_in w) f
+    → IsBeside (def_of w) (tree_in w) (opened (def_of w) (kept_in kept) (fresh_of w) f)
+opened_beside w h kept f (kind, whole, own) = (
   kind,
+  whole,
   formed (def_of w) (is_sound w.judged h.judged) (kept_in kept) (fresh_of w)
       (is_name (def_of w) (tree_in w) w.names.now h.names) f kind own,
 )
 
 -- the tree with an element less
-pub less_formed : (w : Wrong) → IsWrong w → (m : Member) → HasMember (tree_in w) m
-    → IsFormed (def_of w) (change_at (removed m.number) m.list (tree_in w))
-less_formed w h m has =
+pub less_beside : (w : Wrong) → IsWrong w → (m : Member) → HasMember (tree_in w) m
+    → IsBeside (def_of w) (tree_in w) (change_at (removed m.number) m.list (tree_in w))
+less_beside w h m has =
     let (kind, own) = h.judged.formed in (
       kind,
+      own,
       changed_formed (def_of w) (removed m.number) (tree_in w) kind m.list has.list own has.there
           (λ K at. removed_formed (def_of w) m.number has.list K at),
     )

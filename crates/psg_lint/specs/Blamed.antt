@@ -29,6 +29,7 @@ abbrev pub element_of : Option ListKind → ℕ
 element_of None = 0
 element_of (Some k) = k.element
 
+-- that of the elements of the list, if it is one
 abbrev pub element_phylum : Definition → Option Fragment → ℕ
 element_phylum def list = element_of (slice_get def.lists (list_of list))
 
@@ -41,6 +42,7 @@ abbrev pub operator_message : Definition → Option Operator → List ℕ
 operator_message def o = cond (declares_by def o) (operator_name o ++ codes " does not fit here")
     (codes "no further element fits here")
 
+-- what is reported about the element
 abbrev pub element_message : Definition → Fragment → List ℕ
 element_message def e = operator_message def (operator_of def e)
 

@@ -22,6 +22,7 @@ is_unfinished (ending l u) = u
 is_unfinished (cell l e r) = is_unfinished r
 is_unfinished _ = false
 
+-- whether there is a constructor
 abbrev pub is_there : Option ℕ → Bool
 is_there None = false
 is_there (Some c) = true
@@ -30,9 +31,11 @@ is_there (Some c) = true
 abbrev pub has_one_value : Signature → ℕ → Bool
 has_one_value sig sort = is_there (only_constructor sig sort)
 
+-- nothing is reported about the values of a placeholder of the phylum
 abbrev pub is_plain : Definition → Phylum → List Term → Bool
 is_plain def p values = has_one_value def.signature p.sort.0 || say_nothing values
 
+-- `, wanted T` or nothing
 abbrev pub wanted_text : Definition → Phylum → List Term → List ℕ
 wanted_text def p values = cond (is_plain def p values) [] (codes ", wanted " ++ values_text def.signature values)
 

@@ -30,8 +30,8 @@ use Rattle.psg_recover.specs.TextPlaces.{IsRead, Read}
 use Rattle.psg_lint.specs.Wrongs.{AreWrong, limit_told, wide_path}
 
 module _ (def : Definition) (text : List ℕ) (f : Fragment) (r : Read) where
-  -- What is found in a program, in no order. Of open places nothing is told where something is wrong, or where reading
-  -- had stopped.
+  -- What is found in a program, in no order. Nothing is reported about open places where something is wrong, or where
+  -- reading had stopped.
   pub data AreFound (stopped : Bool) : (limited : Bool) → List Finding → Bool → Type 0 where
     found_limit : (fault : NoteFault) → IsNoteFault def f fault → IsOfTree fault
         → AreFound stopped false (limit_told def r fault (wide_path fault) ∷ []) false
@@ -41,8 +41,8 @@ module _ (def : Definition) (text : List ℕ) (f : Fragment) (r : Read) where
     found_open : (notes : List Finding) → IsWithin def f → IsOpen def f → stopped ≡ false → AreNotes def f r notes
         → AreFound stopped false (warnings def r (free_uses def f) ++ notes) false
 
--- The tokens are those of a tree of the kind in which elements may be lost, or of one that is too deep; and what is left is
--- a tree of the kind in the language, which is within the limits, or is told not to be.
+-- The tokens are those of a tree of the kind in which elements may be lost, or of one that is too deep. What is left is
+-- a tree of the kind in the language. It is within the limits, or it is reported that it is not.
 pub data AreJudged (def : Definition) (kind : Kind) (text : List ℕ) (stopped : Bool) (tokens : List Spanned)
     : (limited : Bool) → List Finding → Bool → Type 0 where
   deep : HasDeep (quiet def) (goal_of kind) tokens
@@ -55,9 +55,9 @@ pub data AreJudged (def : Definition) (kind : Kind) (text : List ℕ) (stopped :
       → AreFound def text (left_out def r.whole) r stopped limited found more
       → AreJudged def kind text stopped tokens limited found more
 
--- What is found in the bytes, with the text whose lines and columns are told, and whether the search met a limit. Where the
--- bytes are no UTF-8 the text is the longest one in front. Where the text has stops they are told, and also what is found in
--- what is read at last.
+-- What is found in the bytes, with the text whose lines and columns are given, and whether the search met a limit.
+-- Where the bytes are no UTF-8 the text is the longest one in front. Where the text has stops they are reported, and
+-- also what is found in what is read at last.
 pub data IsReport (def : Definition) (kind : Kind) (bytes : List ℕ) : List ℕ → (limited : Bool) → List Finding → Bool
     → Type 0 where
   no_text : (count : ℕ) → IsValidUpTo (unmarked bytes) count
@@ -67,8 +67,8 @@ pub data IsReport (def : Definition) (kind : Kind) (bytes : List ℕ) : List ℕ
       → IsReport def kind bytes (unmarked bytes) false (error_at (byte_of fault) (lexical_message fault) ∷ []) false
   only_stops : (stops sorted : List Finding) → IsUtf8 (unmarked bytes) → HasStops def kind (unmarked bytes) stops None
       → AreInOrder stops sorted → IsReport def kind bytes (unmarked bytes) false sorted false
-  is_judged : (stops found sorted : List Finding) (tokens : List Spanned) (limited more : Bool) → IsUtf8 (unmarked bytes)
-      → HasStops def kind (unmarked bytes) stops (Some tokens)
+  is_judged : (stops found sorted : List Finding) (tokens : List Spanned) (limited more : Bool)
+      → IsUtf8 (unmarked bytes) → HasStops def kind (unmarked bytes) stops (Some tokens)
       → AreJudged def kind (unmarked bytes) (has_error stops) tokens limited found more
       → AreInOrder (stops ++ found) sorted → IsReport def kind bytes (unmarked bytes) limited sorted more
 

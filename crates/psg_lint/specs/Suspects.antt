@@ -18,6 +18,7 @@ use Rattle.psg_lint.specs.Hints.{IsGoodWith}
 use Rattle.psg_uses.specs.Naming.{path_of_place}
 use Rattle.psg_recover.specs.TextPlaces.{Read, name_byte}
 
+-- a list of what is found, if anything is
 abbrev pub one_or_none : Option Finding → List Finding
 one_or_none None = []
 one_or_none (Some found) = found ∷ []

@@ -28,9 +28,11 @@ use Rattle.psg_uses.specs.Members.{member_path}
 use Rattle.psg_lint.specs.Suspects.{AreSuspected}
 use Rattle.psg_recover.specs.TextPlaces.{Read, first_byte, name_byte, node_byte, place_byte}
 
+-- a node is too wide
 abbrev pub wide_message : List ℕ
 wide_message = codes "too many values are possible here"
 
+-- the weight of the whole is above the limit
 abbrev pub heavy_message : List ℕ
 heavy_message = codes "the program is too heavy"
 
@@ -69,6 +71,7 @@ pub record IsToldBefore (def : Definition) (f : Fragment) (kept : List Bool) (n 
   pub same : list_path other ≡ list_path path
   pub quiet : declares def (element_phylum def (node_at f (list_path path))) ≡ false
 
+-- without the element the blamed place would be right
 abbrev pub member_message : List ℕ
 member_message = codes "this element does not fit here"
 

@@ -396,11 +396,13 @@ fn tell_places<L: Ledger>(
 fn tell_blamed<L: Ledger>(
     alloc: Global,
     judged: Judged,
+    note: &Note,
     blamed: &Blamed,
     found: &mut Vec<Finding>,
     steps: &mut Steps<L>,
 ) -> Result<bool, AllocError>
     requires judged { IsJudged judged }
+    requires note { IsNoteOf judged.definition.now judged.tree.now note.now }
     requires blamed { IsFound (IsOpen judged.definition.now) judged.definition.now judged.tree.now blamed.now }
     requires wrong { IsOpen judged.definition.now judged.tree.now → ⊥ }
     ensures { IfOk result (λ more. (r : Read) → IsSpotsOf judged.entry.spots r → (told : List Told)
@@ -413,6 +415,7 @@ fn tell_blamed<L: Ledger>(
         kept: blamed.kept.as_slice(),
         places: places.as_slice(),
         names: &blamed.names,
+        note,
     };
     let more = tell_places(alloc, wrong, found, steps)?;
     Ok(more)
@@ -513,11 +516,13 @@ pub(crate) fn told_limit(
 fn tell_answer<L: Ledger>(
     alloc: Global,
     judged: Judged,
+    note: &Note,
     answer: Option<Blamed>,
     found: &mut Vec<Finding>,
     steps: &mut Steps<L>,
 ) -> Result<bool, AllocError>
     requires judged { IsJudged judged }
+    requires note { IsNoteOf judged.definition.now judged.tree.now note.now }
     requires answer { IsBlame (IsOpen judged.definition.now) judged.definition.now judged.tree.now answer }
     requires wrong { IsOpen judged.definition.now judged.tree.now → ⊥ }
     ensures { IfOk result (λ more. (r : Read) → IsSpotsOf judged.entry.spots r → (told : List Told)
@@ -527,7 +532,7 @@ fn tell_answer<L: Ledger>(
     let top = judged.spots.first();
     match answer {
         Some(blamed) => {
-            let more = tell_blamed(alloc, judged, &blamed, found, steps)?;
+            let more = tell_blamed(alloc, judged, note, &blamed, found, steps)?;
             Ok(more)
         }
         None => {
@@ -585,7 +590,7 @@ pub(crate) fn tell_wrong<L: Ledger>(
     let tables = judged.tables;
     match blame_noted(alloc, definition, tables, note, judged.tree, steps) {
         Ok(answer) => {
-            let more = tell_answer(alloc, judged, answer, found, steps)?;
+            let more = tell_answer(alloc, judged, note, answer, found, steps)?;
             Ok(more)
         }
         Err(fault) => {

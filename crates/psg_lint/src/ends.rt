@@ -6,6 +6,7 @@ ghost use Rattle.psg_grammar.specs.Paths as grammar;
 ghost use Rattle.psg_grammar.specs.Paths.{IsList, node_at};
 ghost use Rattle.psg_tree.specs.declared.places.TreeFault.TheVariants as faults;
 ghost use Rattle.psg_cache.specs.Notes.{IsFormed};
+ghost use Rattle.psg_places.specs.Answers.{IsBeside};
 ghost use Rattle.psg_places.specs.Places as places;
 ghost use Rattle.psg_wanted.specs.Fronts as fronts;
 ghost use Rattle.psg_wanted.specs.Fronts.{AreValues, last_path};
@@ -20,10 +21,10 @@ use psg_known::known::declares;
 use psg_known::numbers::step_of;
 use psg_terms::{Steps, Term};
 use psg_tree::{Path, Shape, Tree, TreeFault, at, insert};
+use psg_wanted::beside::{noted_beside, values_beside};
 use psg_wanted::menus::names_in;
 use psg_wanted::places::element_menu;
 use psg_wanted::texts::{menu_or_none, say_nothing, values_text};
-use psg_wanted::values::{noted, values_at};
 use std::alloc::{AllocError, Global};
 use std::sync::ledger::Ledger;
 
@@ -146,22 +147,23 @@ fn with_last(alloc: Global, tree: &Tree, path: &Path, list: Listed) -> Result<Tr
 /// Returns the values that a further element of the list at the path may have; none where elements declare.
 fn wanted_element<L: Ledger>(
     alloc: Global,
-    judged: Judged,
+    wrong: Wrong,
     tree: &Tree,
     path: &Path,
     list: Listed,
     steps: &mut Steps<L>,
 ) -> Result<Vec<Term>, AllocError>
-    requires judged { IsJudged judged }
-    requires formed { IsFormed judged.definition.now tree.now }
-    requires there { IsListThere judged.definition.now tree.now path.now list }
-    ensures declaring { IfOk result (λ v. places.declares judged.entry.definition.now list.phylum ≡ true
+    requires wrong { IsWrong wrong }
+    requires kinds { IsBeside (def_of wrong) (tree_in wrong) tree.now }
+    requires there { IsListThere (def_of wrong) tree.now path.now list }
+    ensures declaring { IfOk result (λ v. places.declares (def_of wrong.entry) list.phylum ≡ true
         → v.items ≡ []) }
-    ensures values { IfOk result (λ v. places.declares judged.entry.definition.now list.phylum ≡ false
-        → AreValues judged.entry.definition.now (fronts.with_last tree.now path.now list.phylum)
+    ensures values { IfOk result (λ v. places.declares (def_of wrong.entry) list.phylum ≡ false
+        → AreValues (def_of wrong.entry) (fronts.with_last tree.now path.now list.phylum)
         (last_path tree.now path.now) v.items) }
-    ensures sorted { IfOk result (λ v. AreSorted judged.entry.definition.now.signature v.items) }
+    ensures sorted { IfOk result (λ v. AreSorted (def_of wrong.entry).signature v.items) }
 {
+    let judged = wrong.judged;
     let declaring = declares(judged.spots.known, list.phylum);
     if declaring {
         return Ok(Vec::new(alloc));
@@ -171,30 +173,31 @@ fn wanted_element<L: Ledger>(
     let last = child_path(alloc, path, place)?;
     let definition = judged.definition;
     let tables = judged.tables;
-    let values = values_at(alloc, definition, tables, &more, &last, steps)?;
+    let values = values_beside(alloc, definition, tables, wrong.note, &more, &last, steps)?;
     Ok(values)
 }
 
 /// Returns the operators that may be a further element of the list at the path; none where the tree passes a limit.
 fn menu_at<L: Ledger>(
     alloc: Global,
-    judged: Judged,
+    wrong: Wrong,
     tree: &Tree,
     path: &Path,
     list: Listed,
     steps: &mut Steps<L>,
 ) -> Result<Vec<u32>, AllocError>
-    requires judged { IsJudged judged }
-    requires formed { IsFormed judged.definition.now tree.now }
-    requires there { IsListThere judged.definition.now tree.now path.now list }
-    ensures { IfOk result (λ ops. IsElementMenu judged.entry.definition.now tree.now path.now list.phylum ops.items) }
+    requires wrong { IsWrong wrong }
+    requires kinds { IsBeside (def_of wrong) (tree_in wrong) tree.now }
+    requires there { IsListThere (def_of wrong) tree.now path.now list }
+    ensures { IfOk result (λ ops. IsElementMenu (def_of wrong.entry) tree.now path.now list.phylum ops.items) }
 {
+    let judged = wrong.judged;
     let definition = judged.definition;
     let tables = judged.tables;
     let place = step_of(list.elements)?;
     let used = names_in(alloc, tree)?;
     let names = used.as_slice();
-    let found = noted(alloc, definition, tables, tree, steps)?;
+    let found = noted_beside(alloc, definition, tables, wrong.note, tree, steps)?;
     match found {
         Some(note) => {
             let ops = element_menu(
@@ -238,22 +241,23 @@ fn told_menu(alloc: Global, judged: Judged, ops: &[u32]) -> Result<String, Alloc
 /// Says which element the list at the path of the tree wants.
 pub(crate) fn of_list<L: Ledger>(
     alloc: Global,
-    judged: Judged,
+    wrong: Wrong,
     tree: &Tree,
     path: &Path,
     steps: &mut Steps<L>,
 ) -> Result<String, AllocError>
-    requires judged { IsJudged judged }
-    requires formed { IsFormed judged.definition.now tree.now }
+    requires wrong { IsWrong wrong }
+    requires kinds { IsBeside (def_of wrong) (tree_in wrong) tree.now }
     requires there { (list : Fragment) × (node_at tree.now path.now ≡ Some list) × IsList list }
-    ensures { IfOk result (λ message. IsEndMessage judged.entry.definition.now tree.now path.now
+    ensures { IfOk result (λ message. IsEndMessage (def_of wrong.entry) tree.now path.now
         (string_bytes message)) }
 {
+    let judged = wrong.judged;
     let list = list_at(judged, tree, path);
-    let wanted = wanted_element(alloc, judged, tree, path, list, steps)?;
+    let wanted = wanted_element(alloc, wrong, tree, path, list, steps)?;
     let silent = say_nothing(wanted.as_slice());
     if silent {
-        let ops = menu_at(alloc, judged, tree, path, list, steps)?;
+        let ops = menu_at(alloc, wrong, tree, path, list, steps)?;
         let message = told_menu(alloc, judged, ops.as_slice())?;
         return Ok(message);
     }

@@ -26,8 +26,9 @@ use psg_terms::{Steps, Term};
 use psg_tree::{Path, Shape, Tree, at};
 use psg_uses::names::{Written, name_at};
 use psg_uses::regions::{declaration_of, declared_again};
+use psg_wanted::beside::{key_values, values_beside};
 use psg_wanted::texts::{entity_wanted, node_message, operator_name};
-use psg_wanted::values::{key_values, values_at};
+use psg_wanted::values::values_at;
 use std::alloc::{AllocError, Global};
 use std::sync::ledger::Ledger;
 
@@ -80,7 +81,9 @@ fn wanted_at<L: Ledger>(
 {
     let judged = wrong.judged;
     let tree = tree_before(alloc, wrong, number)?;
-    let values = values_at(alloc, judged.definition, judged.tables, &tree, own, steps)?;
+    let definition = judged.definition;
+    let tables = judged.tables;
+    let values = values_beside(alloc, definition, tables, wrong.note, &tree, own, steps)?;
     Ok(values)
 }
 
@@ -198,7 +201,7 @@ fn of_end<L: Ledger>(
 {
     let own = there(alloc, wrong, number, path)?;
     let tree = tree_before(alloc, wrong, number)?;
-    let message = of_list(alloc, wrong.judged, &tree, &own, steps)?;
+    let message = of_list(alloc, wrong, &tree, &own, steps)?;
     Ok(message)
 }
 
@@ -256,7 +259,9 @@ fn wanted_entities<L: Ledger>(
     let new = new_name(alloc, wrong.names, number)?;
     let definition = judged.definition;
     let tables = judged.tables;
-    let terms = key_values(alloc, definition, tables, &tree, space, &new, steps)?;
+    let terms = key_values(
+        alloc, definition, tables, wrong.note, &tree, space, &new, steps,
+    )?;
     Ok(terms)
 }
 

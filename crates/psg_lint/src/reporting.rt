@@ -44,7 +44,7 @@ use std::alloc::{AllocError, Global};
 use std::cmp::Ordering;
 use std::sync::ledger::Ledger;
 
-/// All that is found in the bytes of a program file.
+/// A report: all that is found in the bytes of a program file.
 #[derive(Debug, Drop)]
 pub struct Report {
     /// What is found, by byte; of one byte errors are first, then warnings.

@@ -1,20 +1,22 @@
 //! Trees in which some places of a wrong program are kept.
-ghost use Rattle.std.specs.Prelude.{◌≡◌, ◌++◌, ◌∷◌, ◌↔◌, ◌≤◌, [], IfOk, length, take, true};
-ghost use Rattle.psg_cache.specs.Notes.{IsFormed};
+ghost use Rattle.std.specs.Prelude.{◌≡◌, ◌++◌, ◌+◌, ◌∷◌, ◌↔◌, ◌≤◌, [], IfOk, length, take, true};
+ghost use Rattle.psg_cache.specs.Diff.{diff_of};
+ghost use Rattle.psg_places.specs.Answers.{IsBeside};
 ghost use Rattle.psg_places.specs.Blame.{kept_in};
 ghost use Rattle.psg_places.specs.Listings as listings;
 ghost use Rattle.psg_places.specs.NewNames.{new_name};
 ghost use Rattle.psg_places.specs.Opened.{opened};
 ghost use Rattle.psg_lint.specs.Hints.{IsGoodWith};
-ghost use Rattle.psg_lint.specs.Judged.{IsWrong};
+ghost use Rattle.psg_lint.specs.Judged.{IsWrong, def_of, fresh_of, tree_in};
 
+use psg_cache::Note;
 use psg_eval::Tables;
 use psg_grammar::Definition;
 use psg_places::{Place, kept_part};
 use psg_recover::spots::Spots;
 use psg_terms::{Steps, Txt};
 use psg_tree::Tree;
-use psg_wanted::values::is_good;
+use psg_wanted::beside::is_good;
 use std::alloc::{AllocError, Global};
 use std::sync::ledger::Ledger;
 
@@ -38,6 +40,8 @@ pub(crate) struct Wrong<'a> {
     pub(crate) places: &'a [Place],
     /// The letters of new names.
     pub(crate) names: &'a Txt,
+    /// The note of the program.
+    pub(crate) note: &'a Note,
 }
 
 /// Returns the tree of the kept places.
@@ -58,7 +62,8 @@ pub(crate) fn tree_of(
     Ok(part)
 }
 
-/// Says whether the tree of the kept places has a completion; not where it passes a limit.
+/// Says whether the tree of the kept places has a completion; not where it passes a limit. It is evaluated beside the
+/// program: what both have in common is not evaluated again.
 pub(crate) fn can_be<L: Ledger>(
     alloc: Global,
     wrong: Wrong,
@@ -67,13 +72,23 @@ pub(crate) fn can_be<L: Ledger>(
     steps: &mut Steps<L>,
 ) -> Result<bool, AllocError>
     requires wrong { IsWrong wrong }
-    requires formed { IsFormed wrong.judged.definition.now tree.now }
-    ensures { IfOk result (λ good. (good ≡ true) ↔ IsGoodWith wrong.entry.judged.definition.now
-        (new_name wrong.entry.names.now) tree.now kept.now) }
+    requires kinds { IsBeside (def_of wrong) (tree_in wrong) tree.now }
+    ensures good { IfOk result (λ good. (good ≡ true) ↔ IsGoodWith (def_of wrong.entry) (fresh_of wrong.entry) tree.now
+        kept.now) }
+    // whatever it answers
+    ensures ticks { steps.new ≤ steps.old + diff_of (tree_in wrong.entry)
+        (opened (def_of wrong.entry) (kept_in kept.now) (fresh_of wrong.entry) tree.now) }
 {
     let judged = wrong.judged;
     let part = tree_of(alloc, wrong, kept, tree)?;
-    let good = is_good(alloc, judged.definition, judged.tables, &part, steps)?;
+    let good = is_good(
+        alloc,
+        judged.definition,
+        judged.tables,
+        wrong.note,
+        &part,
+        steps,
+    )?;
     Ok(good)
 }
 

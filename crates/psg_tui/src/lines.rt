@@ -123,8 +123,9 @@ fn push_node(text: &mut String, definition: &Definition, node: &Tree) -> Result<
                 text.push_str(kind.name.as_str())?;
             }
             let count = elements.as_slice().len();
+            let plural = if count == 1 { "" } else { "s" };
             let end = if *unfinished { ", open" } else { "" };
-            write!(text, ", {count} elements{end}")
+            write!(text, ", {count} element{plural}{end}")
         }
         Shape::Op { op, .. } => {
             if let Some(operator) = definition.operators.as_slice().get(*op as usize) {

@@ -63,6 +63,7 @@ pub data AreKeyValues (def : Definition) (f : Fragment) (key : Key) : List Term 
   without_column : is_among (names_of def f) key ≡ false → AreKeyValues def f key []
   beyond : IsTooMuch def f → AreKeyValues def f key []
 
+-- the first place alone is kept
 abbrev pub is_first : ℕ → Bool
 is_first n = n == 0
 

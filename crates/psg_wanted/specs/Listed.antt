@@ -7,6 +7,7 @@ use Rattle.psg_grammar.specs.Paths.{IsList, Path, node_at}
 use Rattle.psg_menu.specs.Menus.{IsChoosable}
 use Rattle.psg_wanted.specs.Fronts.{IsListed, list_of}
 
+-- whether the operator is one that may be put at the path, in a list at the place, so that the tree may be listed
 abbrev pub IsListedAt : Definition → Fragment → Path → Option ℕ → ℕ → Bool → Type 0
 IsListedAt def f path k o listed = (listed ≡ true) ↔ IsChoosable def f path k (IsListed def) o
 

@@ -36,6 +36,7 @@ abbrev pub values_text : Signature → List Term → List ℕ
 values_text sig terms = cond (nat_lt most_values (length terms))
     (all_values sig (take most_values terms) ++ codes " or ..") (all_values sig terms)
 
+-- a term that may be any of its sort
 abbrev pub is_variable : Term → Bool
 is_variable (variable s n) = true
 is_variable (symbol c) = false
@@ -47,6 +48,7 @@ say_nothing [] = true
 say_nothing (t ∷ []) = is_variable t
 say_nothing (t ∷ u ∷ rest) = false
 
+-- there are no terms
 abbrev pub is_none : List Term → Bool
 is_none [] = true
 is_none (t ∷ ts) = false
@@ -63,6 +65,7 @@ node_message sig wanted found = cond (say_nothing wanted) (codes "this does not 
 abbrev pub entity_wanted : Signature → List Term → List ℕ
 entity_wanted sig terms = cond (say_nothing terms) [] (codes ", wanted " ++ values_text sig terms)
 
+-- the name of the operator, if the definition has it
 abbrev pub operator_name : Option Operator → List ℕ
 operator_name None = []
 operator_name (Some o) = o.name

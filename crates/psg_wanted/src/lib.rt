@@ -2,11 +2,12 @@
 //! there.
 //!
 //! ```text
-//! let values = values_at(alloc, note, path, steps)?;
+//! let values = values_in(alloc, definition, tables, note, path, steps)?;
 //! let operators = menu(alloc, definition, tables, frames, phylum, used, steps)?;
 //! ```
 #![tactic(auto)]
 
+pub mod beside;
 pub mod menus;
 pub mod places;
 pub mod texts;

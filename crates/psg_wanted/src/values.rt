@@ -1,5 +1,5 @@
 //! What the nodes and names of a tree may be.
-ghost use Rattle.std.specs.Prelude.{◌≡◌, ◌↔◌, ◌∷◌, [], ℕ, IfNone, IfOk, IfSome, IsTrue, List, None, Some, bytes_eq};
+ghost use Rattle.std.specs.Prelude.{◌≡◌, ◌∷◌, [], ℕ, IfNone, IfOk, IfSome, List, None, Some, bytes_eq};
 ghost use Rattle.std.specs.Prelude.{false, length};
 ghost use Rattle.psg_terms.specs.Names.{is_among};
 ghost use Rattle.psg_terms.specs.Relations.{IsIn, IsRelation};
@@ -10,7 +10,6 @@ ghost use Rattle.psg_relation.specs.Choices.{AllHaveSorts};
 ghost use Rattle.psg_grammar.specs.declared.types.Definition.{Definition as PlainDefinition};
 ghost use Rattle.psg_grammar.specs.Fragments.{Fragment};
 ghost use Rattle.psg_grammar.specs.Keys.{Key};
-ghost use Rattle.psg_grammar.specs.Open.{IsOpen};
 ghost use Rattle.psg_grammar.specs.Paths.{node_at};
 ghost use Rattle.psg_grammar.specs.Sound.{IsSound};
 ghost use Rattle.psg_scope.specs.Headers.{key_of, keys};
@@ -36,7 +35,7 @@ use std::alloc::{AllocError, Global};
 use std::sync::ledger::Ledger;
 
 /// Returns no note for a limit that is passed.
-fn no_note(fault: NoteFault) -> Result<Option<Note>, AllocError>
+pub(crate) fn no_note(fault: NoteFault) -> Result<Option<Note>, AllocError>
     ensures none { IfOk result (λ found. found ≡ None) }
     ensures some { IfOk result (λ _. fault ≡ notes.Memory → ⊥) }
 {
@@ -50,7 +49,7 @@ fn no_note(fault: NoteFault) -> Result<Option<Note>, AllocError>
 }
 
 /// Returns the note of the tree; none where it passes a limit.
-pub fn noted<L: Ledger>(
+fn noted<L: Ledger>(
     alloc: Global,
     definition: &Definition,
     tables: &Tables,
@@ -70,30 +69,6 @@ pub fn noted<L: Ledger>(
             let none = no_note(fault)?;
             Ok(none)
         }
-    }
-}
-
-/// Says whether the tree has a completion; not where it passes a limit.
-pub fn is_good<L: Ledger>(
-    alloc: Global,
-    definition: &Definition,
-    tables: &Tables,
-    tree: &Tree,
-    steps: &mut Steps<L>,
-) -> Result<bool, AllocError>
-    requires sound { IsSound definition.now }
-    requires tables { AreTables definition.now tables.now }
-    requires formed { IsFormed definition.now tree.now }
-    ensures { IfOk result
-        (λ good. IsTrue good ↔ ((IsTooMuch definition.now tree.now → ⊥) × IsOpen definition.now tree.now)) }
-{
-    let found = noted(alloc, definition, tables, tree, steps)?;
-    match found {
-        Some(note) => {
-            let good = note.is_good();
-            Ok(good)
-        }
-        None => Ok(false),
     }
 }
 
@@ -262,7 +237,7 @@ fn only_terms(alloc: Global, rows: &[RelRow]) -> Result<Vec<Term>, AllocError>
 
 /// Returns the entities of the key in completions of the tree of the note; none where its relation has no column for
 /// it.
-fn key_values_in(
+pub(crate) fn key_values_in(
     alloc: Global,
     definition: &Definition,
     note: &Note,
@@ -282,35 +257,6 @@ fn key_values_in(
             let rows = rel.rows();
             let terms = only_terms(alloc, rows)?;
             Ok(terms)
-        }
-        None => Ok(Vec::new(alloc)),
-    }
-}
-
-/// Returns the entities that the name may have in completions of the tree, as most general terms in the order of their
-/// texts. It returns none where the tree passes a limit, and where its relation has no column for the name: the tree
-/// does not use it, or an unfinished list may still declare it.
-pub fn key_values<L: Ledger>(
-    alloc: Global,
-    definition: &Definition,
-    tables: &Tables,
-    tree: &Tree,
-    space: u32,
-    name: &Txt,
-    steps: &mut Steps<L>,
-) -> Result<Vec<Term>, AllocError>
-    requires sound { IsSound definition.now }
-    requires tables { AreTables definition.now tables.now }
-    requires formed { IsFormed definition.now tree.now }
-    ensures values { IfOk result (λ v. AreKeyValues definition.now tree.now (space ∷ name.now) v.items) }
-    ensures sorted { IfOk result
-        (λ v. (t : Plain) → IsIn t v.items → (s : ℕ) × HasSort definition.now.signature t s) }
-{
-    let found = noted(alloc, definition, tables, tree, steps)?;
-    match found {
-        Some(note) => {
-            let told = key_values_in(alloc, definition, &note, space, name)?;
-            Ok(told)
         }
         None => Ok(Vec::new(alloc)),
     }

@@ -15,6 +15,7 @@ tell_places-requires g c = record {
     answers = subst (λ (ks : List Bool). AreAllAnswers (IsOpen c.args.judged.definition.now) c.args.judged.definition.now
         (new_name c.args.blamed.now.names) c.args.judged.tree.now ks) (sym c.as_slice.ensures)
         (c.requires.blamed.answers (new_name c.args.blamed.now.names) c.requires.blamed.new);
+    note = c.requires.note;
   };
 }
 

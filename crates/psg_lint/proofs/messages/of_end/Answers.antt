@@ -2,12 +2,18 @@ use Rattle.std.proofs.Common.{◌≡◌, Some, sym, subst, take}
 use Rattle.std.specs.Prelude.{string_bytes}
 use Rattle.psg_grammar.specs.Fragments.{Fragment}
 use Rattle.psg_grammar.specs.Paths.{IsList, node_at}
+use Rattle.psg_places.specs.Answers.{IsBeside}
+use Rattle.psg_lint.specs.Judged.{def_of, tree_in}
 use Rattle.psg_lint.specs.Blamed.{IsEndMessage, of_end}
-use Rattle.psg_lint.proofs.MessageLaws.{list_before, made_formed}
+use Rattle.psg_lint.proofs.MessageLaws.{list_before}
+use Rattle.psg_lint.proofs.WrongLaws.{beside_itself, opened_beside}
 use Rattle.psg_lint.proofs.messages.of_end.Goals as goal
 
-pub of_list-requires-clause-formed : goal.of_list-requires-clause-formed
-of_list-requires-clause-formed g c = made_formed c.args.wrong c.requires.wrong (take c.args.number c.args.wrong.kept.now) c.in_ok-tree.tree c.in_ok-tree.ensures
+pub of_list-requires-clause-kinds : goal.of_list-requires-clause-kinds
+of_list-requires-clause-kinds g c =
+    subst (IsBeside (def_of c.args.wrong) (tree_in c.args.wrong)) (sym c.in_ok-tree.ensures)
+    (opened_beside c.args.wrong c.requires.wrong (take c.args.number c.args.wrong.kept.now) (tree_in c.args.wrong)
+    (beside_itself c.args.wrong c.requires.wrong))
 
 pub of_list-requires-clause-there : goal.of_list-requires-clause-there
 of_list-requires-clause-there g c =

@@ -2,6 +2,7 @@ use Rattle.std.proofs.Common.{◌≡◌, ◌↔◌, Bool, List, true, false, tru
 use Rattle.psg_lint.specs.Judged.{def_of, fresh_of, tree_in}
 use Rattle.psg_lint.specs.Hints.{IsGoodWith}
 use Rattle.psg_lint.proofs.SuspectLaws.{each_place, explaining, no_contents, not_explaining}
+use Rattle.psg_lint.proofs.WrongLaws.{beside_itself}
 use Rattle.psg_lint.proofs.suspects.explains.Goals as goal
 
 pub returns-then-not-all_outside : goal.returns-then-not-all_outside
@@ -21,8 +22,8 @@ returns-then-not-some_blamed g c =
           (λ n at. true≢false (sym (c.some_blamed.ensures.1 (n, ap (λ xs. slice_get xs n) (c.as_slice.ensures.value) ∙ at)) ∙ no)) h)),
     )
 
-pub can_be-requires-clause-formed : goal.can_be-requires-clause-formed
-can_be-requires-clause-formed g c = c.requires.wrong.judged.formed
+pub can_be-requires-clause-kinds : goal.can_be-requires-clause-kinds
+can_be-requires-clause-kinds g c = beside_itself c.args.wrong c.requires.wrong
 
 pub returns : goal.returns
 returns g c =
@@ -34,4 +35,4 @@ returns g c =
     (c.all_outside.ensures.0 out)
     (each_place (def_of w) (tree_in w) c.in_ok-answers.answers.items w.places.now c.requires.wrong.places c.in_ok-answers.ensures.each)
     c.in_ok-answers.ensures.opens (n, ap (λ xs. slice_get xs n) (sym c.as_slice.ensures.value) ∙ at)
-    (subst (λ (ks : List Bool). (c.in_ok-good.good ≡ true) ↔ IsGoodWith (def_of w) (fresh_of w) (tree_in w) ks) c.as_slice-2.ensures.value c.in_ok-good.ensures)
+    (subst (λ (ks : List Bool). (c.in_ok-good.good ≡ true) ↔ IsGoodWith (def_of w) (fresh_of w) (tree_in w) ks) c.as_slice-2.ensures.value c.in_ok-good.ensures.good)

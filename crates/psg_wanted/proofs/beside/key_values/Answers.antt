@@ -6,7 +6,7 @@ use Rattle.psg_cache.specs.Notes.{IsNoteOf}
 use Rattle.psg_wanted.specs.Fronts.{AreKeyValues}
 use Rattle.psg_wanted.proofs.KeyLaws.{none_beyond}
 use Rattle.psg_wanted.proofs.ValueLaws.{none_sorted, note_is}
-use Rattle.psg_wanted.proofs.values.key_values.Goals as goal
+use Rattle.psg_wanted.proofs.beside.key_values.Goals as goal
 
 pub key_values_in-requires : goal.key_values_in-requires
 key_values_in-requires g c =
