@@ -1,4 +1,3 @@
-pub mod Readings
 pub mod Once
 pub mod Pieces
 pub mod Saying

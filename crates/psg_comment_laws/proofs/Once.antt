@@ -15,7 +15,7 @@ use Rattle.psg_comments.specs.Finding.{line_of, HasComments, nothing, blank, com
 use Rattle.psg_comments.specs.declared.finding.Comment.{Comment}
 use Rattle.psg_comments.proofs.Fronts.{begins_head}
 use Rattle.psg_comment_laws.specs.Laws.{HasOneReading}
-use Rattle.psg_comment_laws.proofs.Readings.{blank_token, blank_fault, token_fault, no_token_at_end, same_start}
+use Rattle.psg_lexis.proofs.Laws.{blank_token, blank_fault, token_fault, no_token_at_end, same_start}
 
 -- the comment of so many bytes
 abbrev pub from_to : ℕ → ℕ → Comment

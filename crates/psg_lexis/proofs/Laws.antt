@@ -233,25 +233,25 @@ module _ (fixed : List Name) where
 
   -- ---- the laws
 
-  blank_token : (c : ℕ) (cs : Chars) (at : ℕ) (s : Spanned) → is_blank c ≡ true → Begins fixed (c ∷ cs) at s → ⊥
+  pub blank_token : (c : ℕ) (cs : Chars) (at : ℕ) (s : Spanned) → is_blank c ≡ true → Begins fixed (c ∷ cs) at s → ⊥
   blank_token c cs at s h b = let e = blank_starts c cs at h in let k = begins_starts (c ∷ cs) at s b in cc
 
-  blank_fault : (c : ℕ) (cs : Chars) (at : ℕ) (f : LexFault) → is_blank c ≡ true → IsFault fixed (c ∷ cs) at f → ⊥
+  pub blank_fault : (c : ℕ) (cs : Chars) (at : ℕ) (f : LexFault) → is_blank c ≡ true → IsFault fixed (c ∷ cs) at f → ⊥
   blank_fault c cs at f h i = let e = blank_starts c cs at h in let k = fault_starts i in cc
 
-  token_fault : (all : Chars) (at : ℕ) (s : Spanned) (f : LexFault) → Begins fixed all at s → IsFault fixed all at f
+  pub token_fault : (all : Chars) (at : ℕ) (s : Spanned) (f : LexFault) → Begins fixed all at s → IsFault fixed all at f
       → ⊥
   token_fault all at s f b i = let e = begins_starts all at s b in let k = fault_starts i in cc
 
-  no_token_at_end : (at : ℕ) (s : Spanned) → Begins fixed [] at s → ⊥
+  pub no_token_at_end : (at : ℕ) (s : Spanned) → Begins fixed [] at s → ⊥
   unfolding start
   no_token_at_end at s b = let k = begins_starts [] at s b in cc
 
-  no_fault_at_end : (at : ℕ) (f : LexFault) → IsFault fixed [] at f → ⊥
+  pub no_fault_at_end : (at : ℕ) (f : LexFault) → IsFault fixed [] at f → ⊥
   unfolding start
   no_fault_at_end at f i = let k = fault_starts i in cc
 
-  same_start : (all : Chars) (at : ℕ) (s t : Spanned) (b : Begins fixed all at s) (d : Begins fixed all at t)
+  pub same_start : (all : Chars) (at : ℕ) (s t : Spanned) (b : Begins fixed all at s) (d : Begins fixed all at t)
       → (s ≡ t) × (b.rest ≡ d.rest)
   same_start all at s t b d =
       let e : a_token s b.rest ≡ a_token t d.rest = sym (begins_starts all at s b) ∙ begins_starts all at t d in
