@@ -1,8 +1,8 @@
 //! Trees in which only some places are kept.
-ghost use Rattle.std.specs.Prelude.{◌≡◌, ◌||◌, ◌&&◌, ◌++◌, ◌∷◌, [], cond, not, true, IfOk, OnOk};
+ghost use Rattle.std.specs.Prelude.{◌≡◌, ◌||◌, ◌&&◌, ◌++◌, ◌∷◌, [], cond, not, true, IfOk, IfSome, IsTrue, OnOk};
 ghost use Rattle.psg_tree.specs.Shapes.{list_of};
 ghost use Rattle.psg_places.specs.Openings as openings;
-ghost use Rattle.psg_places.specs.Openings.{IsKnown};
+ghost use Rattle.psg_places.specs.Openings.{IsKnown, Keeps};
 ghost use Rattle.psg_places.specs.Blame.{kept_in};
 
 use crate::containing::free_contained;
@@ -272,7 +272,48 @@ fn open_child(
     Ok(node)
 }
 
-/// Opens an element of a list that may be unfinished, which is the place, as if it were kept.
+/// Says whether all places from the one number up to the other are kept.
+fn keeps_all(keep: &[bool], from: usize, to: usize) -> bool
+    ensures { IsTrue result → Keeps (kept_in keep.now) from to }
+{
+    for place in from..to {
+        if !keeps(keep, place) {
+            return false;
+        }
+    }
+    true
+}
+
+/// Returns an element of a list that may be unfinished as it is, and how many places it has with its own.
+fn as_it_is(keeping: Keeping, tree: &Tree) -> Result<Opened, AllocError>
+    requires known { IsKnown keeping }
+    ensures { IfOk result (openings.IsAsItIs keeping.entry.definition.now tree.now) }
+{
+    let others = free_contained(keeping, tree)?;
+    let same = tree.share()?;
+    Ok(Opened {
+        tree: same,
+        declared: 0,
+        others,
+    })
+}
+
+/// Returns an element of a list that may be unfinished, which is the place, if it and all places in it are kept; nothing
+/// where one of them is not. No node is made.
+fn wholly_kept(keeping: Keeping, place: usize, tree: &Tree) -> Result<Option<Opened>, AllocError>
+    requires known { IsKnown keeping }
+    ensures { IfOk result (λ found. IfSome found (openings.IsOpenedFree keeping.entry place tree.now)) }
+{
+    let whole = as_it_is(keeping, tree)?;
+    let end = plus(place, whole.others)?;
+    if keeps_all(keeping.keep, place, end) {
+        return Ok(Some(whole));
+    }
+    Ok(None)
+}
+
+/// Opens an element of a list that may be unfinished, which is the place, as if it were kept. One that is wholly kept is
+/// shared.
 #[cycle(open)]
 fn open_free_element(
     alloc: Global,
@@ -283,6 +324,9 @@ fn open_free_element(
     requires known { IsKnown keeping }
     ensures { IfOk result (openings.IsOpenedFree keeping.entry place tree.now) }
 {
+    if let Some(whole) = wholly_kept(keeping, place, tree)? {
+        return Ok(whole);
+    }
     let first = plus(place, 1)?;
     if has_no_placeholder(keeping, tree) {
         let inner = open_both(alloc, keeping, first, tree)?;
@@ -324,20 +368,6 @@ fn open_element(
     }
 }
 
-/// Counts the places of an element that is left out. The tree in the answer is not used.
-fn left_out(keeping: Keeping, tree: &Tree) -> Result<Opened, AllocError>
-    requires known { IsKnown keeping }
-    ensures { IfOk result (λ o. (o.declared ≡ 0) × (o.others ≡ openings.own_size keeping.entry.definition.now true tree.now)) }
-{
-    let others = free_contained(keeping, tree)?;
-    let same = tree.share()?;
-    Ok(Opened {
-        tree: same,
-        declared: 0,
-        others,
-    })
-}
-
 /// Opens an element that stays. The places of one that is left out are counted.
 #[cycle(open)]
 fn open_member(
@@ -357,7 +387,7 @@ fn open_member(
         let element = open_element(alloc, keeping, free, above, place, tree)?;
         return Ok(element);
     }
-    let none = left_out(keeping, tree)?;
+    let none = as_it_is(keeping, tree)?;
     Ok(none)
 }
 
@@ -520,8 +550,9 @@ fn open_contents(
     }
 }
 
-/// Opens a whole tree: it returns the tree of the kept places, and how many places there are. It walks once over the
-/// tree, and twice over what declares.
+/// Opens a whole tree: it returns the tree of the kept places, and how many places there are. An element of a list that
+/// may be unfinished is shared where all its places are kept. The call walks over the tree once to make the rest, and
+/// once for each such list around a node to count its places.
 pub(crate) fn open(alloc: Global, keeping: Keeping, tree: &Tree) -> Result<Opened, AllocError>
     requires known { IsKnown keeping }
     ensures { IfOk result (openings.IsOpenedTree keeping.entry tree.now) }
