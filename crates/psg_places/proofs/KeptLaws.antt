@@ -17,6 +17,12 @@ ends true b k h = refl
 ends false false k h = refl
 ends false true k h = ap not (h refl refl)
 
+abbrev one_if : Bool → ℕ
+one_if b = cond b 1 0
+
+abbrev none_if : Bool → ℕ
+none_if b = cond b 0 1
+
 narrow : (keep : ℕ → Bool) (from to low high : ℕ) → Keeps keep from to → from ≤ low → high ≤ to → Keeps keep low high
 narrow keep from to low high h a b m x y = h m (omega (arith, a, x)) (omega (arith, b, y))
 
@@ -93,7 +99,7 @@ module _ (def : Definition) (keep : ℕ → Bool) (fresh : ℕ → Name) where
   same (hole p) d n hd hn = refl
   same (ending l u) d n hd hn =
       ap (ending l) (ends u (may_go_on def l) (keep n)
-      (λ a b. let s : cond (may_go_on def l && not u) 1 0 ≡ 1 = ap₂ (λ x y. cond (x && not y) 1 0) b a in hn n (omega arith) (omega (arith, s))))
+      (λ a b. let s : one_if (may_go_on def l && not u) ≡ one_if true = ap₂ (λ x y. one_if (x && not y)) b a in hn n (omega arith) (omega (arith, s))))
   same (cell l e r) d n hd hn =
       let free = may_go_on def l in
       let own = declared_count def e in
@@ -149,8 +155,8 @@ module _ (def : Definition) (keep : ℕ → Bool) (fresh : ℕ → Name) where
       ap₂ with_name
       (same f d n (narrow keep d end d a hd (omega arith) (omega arith)) (narrow keep n last n p hn (omega arith) (omega arith)))
       (both_ways (λ y. y ≡ x) own (name_or_fresh def keep fresh a x) (name_or_fresh def keep fresh p x)
-      (λ b. let s : cond own 1 0 ≡ 1 = ap (λ y. cond y 1 0) b in name a x (hd a (omega arith) (omega (arith, s))))
-      (λ b. let s : cond own 0 1 ≡ 1 = ap (λ y. cond y 0 1) b in name p x (hn p (omega arith) (omega (arith, s)))))
+      (λ b. let s : one_if own ≡ one_if true = ap one_if b in name a x (hd a (omega arith) (omega (arith, s))))
+      (λ b. let s : none_if own ≡ none_if false = ap none_if b in name p x (hn p (omega arith) (omega (arith, s)))))
   same (with_number f x) d n hd hn = ap (λ g. with_number g x) (same f d n hd hn)
   same (with_text f x) d n hd hn = ap (λ g. with_text g x) (same f d n hd hn)
   same anything d n hd hn = refl

@@ -1,14 +1,14 @@
 //! Trees in which only some places are kept.
-ghost use Rattle.std.specs.Prelude.{◌≡◌, ◌||◌, ◌&&◌, ◌++◌, ◌∷◌, [], cond, not, true, IfOk, IfSome, IsTrue, OnOk};
+ghost use Rattle.std.specs.Prelude.{◌≡◌, ◌||◌, ◌&&◌, ◌++◌, ◌∷◌, [], cond, not, true, IfOk, OnOk};
 ghost use Rattle.psg_tree.specs.Shapes.{list_of};
 ghost use Rattle.psg_places.specs.Openings as openings;
-ghost use Rattle.psg_places.specs.Openings.{IsKnown, Keeps};
+ghost use Rattle.psg_places.specs.Openings.{IsKnown};
 ghost use Rattle.psg_places.specs.Blame.{kept_in};
 
-use crate::containing::free_contained;
 use crate::counting::{declared, goes_on, has_no_placeholder, is_declared, is_hole, phylum_at};
 use crate::fronts::new_name;
 use crate::numbers::{one_if, plus};
+use crate::sharing::{as_it_is, wholly_kept};
 use psg_grammar::Definition;
 use psg_terms::{Seq, Txt};
 use psg_tree::{Part, Shape, Tree};
@@ -270,46 +270,6 @@ fn open_child(
     }
     let node = open_node(alloc, keeping, place, tree)?;
     Ok(node)
-}
-
-/// Says whether all places from the one number up to the other are kept.
-fn keeps_all(keep: &[bool], from: usize, to: usize) -> bool
-    ensures { IsTrue result → Keeps (kept_in keep.now) from to }
-{
-    for place in from..to {
-        if !keeps(keep, place) {
-            return false;
-        }
-    }
-    true
-}
-
-/// Returns an element of a list that may be unfinished as it is, and how many places it has with its own.
-fn as_it_is(keeping: Keeping, tree: &Tree) -> Result<Opened, AllocError>
-    requires known { IsKnown keeping }
-    ensures { IfOk result (openings.IsAsItIs keeping.entry.definition.now tree.now) }
-{
-    let others = free_contained(keeping, tree)?;
-    let same = tree.share()?;
-    Ok(Opened {
-        tree: same,
-        declared: 0,
-        others,
-    })
-}
-
-/// Returns an element of a list that may be unfinished, which is the place, if it and all places in it are kept; nothing
-/// where one of them is not. No node is made.
-fn wholly_kept(keeping: Keeping, place: usize, tree: &Tree) -> Result<Option<Opened>, AllocError>
-    requires known { IsKnown keeping }
-    ensures { IfOk result (λ found. IfSome found (openings.IsOpenedFree keeping.entry place tree.now)) }
-{
-    let whole = as_it_is(keeping, tree)?;
-    let end = plus(place, whole.others)?;
-    if keeps_all(keeping.keep, place, end) {
-        return Ok(Some(whole));
-    }
-    Ok(None)
 }
 
 /// Opens an element of a list that may be unfinished, which is the place, as if it were kept. One that is wholly kept is

@@ -2,7 +2,7 @@ use Rattle.std.proofs.Common.{◌+◌, ◌∙◌, ap, sym, subst}
 use Rattle.psg_places.specs.Blame.{kept_in}
 use Rattle.psg_places.specs.Openings.{Keeps}
 use Rattle.psg_places.proofs.KeptLaws.{kept_whole}
-use Rattle.psg_places.proofs.opening.wholly_kept.Goals as goal
+use Rattle.psg_places.proofs.sharing.wholly_kept.Goals as goal
 
 pub returns-then-keeps_all : goal.returns-then-keeps_all
 returns-then-keeps_all c =

@@ -1,7 +1,7 @@
 use Rattle.std.proofs.Common.{◌≡◌, ◌+◌, inl, inr, true, arith, sym, subst, ◌∙◌}
 use Rattle.std.proofs.lemmas.Bool.{cases_lt, false≢true}
 use Rattle.psg_places.specs.Blame.{kept_in}
-use Rattle.psg_places.proofs.opening.keeps_all.Goals as goal
+use Rattle.psg_places.proofs.sharing.keeps_all.Goals as goal
 
 pub loop-place-init : goal.loop-place-init
 loop-place-init c = λ m low high. absurd (omega (arith, low, high))
