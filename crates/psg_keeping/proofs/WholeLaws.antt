@@ -1,5 +1,5 @@
 -- Lists that begin and end alike.
-use Rattle.std.proofs.Common.{◌≡◌, inl, inr, ℕ, ◌+◌, ◌-◌, ◌<◌, ◌≤◌, ◌*◌, ◌×◌, ◌⊎◌, List, [], ◌∷◌, ◌++◌, length, take, drop, get_or, sym, ap, ◌∙◌, subst, append_assoc}
+use Rattle.std.proofs.Common.{◌≡◌, inl, inr, arith, ℕ, ◌+◌, ◌-◌, ◌<◌, ◌≤◌, ◌*◌, ◌⊎◌, List, [], ◌∷◌, ◌++◌, length, take, drop, get_or, sym, ap, ◌∙◌, subst, append_assoc}
 use Rattle.std.specs.Prelude.{replicate, reverse}
 use Rattle.std.proofs.lemmas.List.{drop_all, drop_more, length-take-le, reverse-append, take-append-drop, take_more}
 use Rattle.psg_lexis.specs.declared.token.Token.{Token}
@@ -60,7 +60,7 @@ back_apart old new n t u lo ln et eu other before rest s e d =
     other (last_is old before n t s lo et e ∙ sym (last_is new rest n u s ln eu d))
 
 over : (xs before : List Token) (n : ℕ) (s : Token) → length xs ≤ n → take (length xs - n) xs ≡ before ++ s ∷ [] → ⊥
-over xs before n s l e = no_last before s (ap (λ k. take k xs) (omega (arith, l)) ∙ e)
+over xs before n s l e = let z : 0 ≡ length xs - n = omega (arith, l) in no_last before s (ap (λ k. take k xs) z ∙ e)
 
 pub back_over : (old new : List Token) (n : ℕ) → (length old ≤ n) ⊎ (length new ≤ n)
     → EndApart (take (length old - n) old) (take (length new - n) new)

@@ -1,5 +1,5 @@
 //! A longest common subsequence of two lists, by a table of the lengths of those of their ends.
-ghost use Rattle.std.specs.Prelude.{◌≡◌, ◌<◌, ◌≤◌, ◌+◌, ◌*◌, ◌^◌, ◌×◌, ◌⊎◌, ◌∷◌, [], IfOk, List, get_or, length};
+ghost use Rattle.std.specs.Prelude.{◌≡◌, ◌<◌, ◌≤◌, ◌+◌, ◌*◌, ◌^◌, ◌⊎◌, ◌∷◌, [], IfOk, List, get_or, length};
 ghost use Rattle.psg_keeping.specs.Pairing.{ArePairs, IsMost, alone, most_cells};
 ghost use Rattle.psg_keeping.specs.Rows.{AreRows, IsBest, IsNext, IsRow, new_in as new_in_of, old_in as old_in_of};
 ghost use Rattle.psg_keeping.specs.Rows.{end_of, value_at};
