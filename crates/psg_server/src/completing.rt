@@ -3,9 +3,12 @@ ghost use Rattle.std.specs.Prelude.{ℕ, ◌≡◌, ◌++◌, ◌≤◌, ◌-◌
 ghost use Rattle.std.specs.Prelude.{Some, drop, length, map, string_bytes, take};
 ghost use Rattle.serde_json.specs.View.{view};
 ghost use Rattle.psg_documents.specs.Positions.{AreStarts};
+ghost use Rattle.psg_defcomment.specs.Reading.{IsCommentOf};
+ghost use Rattle.psg_grammar.specs.WellFormed.{fixed_words};
 ghost use Rattle.psg_server.specs.Completing as completed;
 ghost use Rattle.psg_server.specs.Completing.{IsCompletedAt, IsCompletedIn, IsCompletionValue, IsTextBetween};
 ghost use Rattle.psg_server.specs.Edits.{edit_data};
+ghost use Rattle.psg_server.specs.Judging.{OfJudged};
 ghost use Rattle.psg_messages.specs.Messages.{given_of, request};
 ghost use Rattle.psg_server.specs.declared.methods.Call.TheVariants as calls;
 ghost use Rattle.psg_server.specs.Answering.{Serves, out_of};
@@ -13,6 +16,7 @@ ghost use Rattle.psg_server.specs.Methods.{call_of};
 
 use crate::documents::Document;
 use crate::edits::{edit_of, null_value};
+use crate::judging::{Defined, Judged, is_commenting, without_comments};
 use crate::ranges::{Page, range_value};
 use crate::server::{Reply, Server, answered, refused};
 use psg_completing::{Completion, Entry, completion_at};
@@ -145,17 +149,19 @@ fn completion_value(
     Ok(list)
 }
 
-/// Returns what may be put in place of the word at the position of a text.
+/// Returns what may be put in place of the word at the position of a text, by what is judged of it: null in a comment.
 fn completed_at<L: Ledger>(
     alloc: Global,
     language: &Language,
     kind: Kind,
     encoding: Encoding,
     text: &str,
+    own: &Judged,
     position: Position,
     steps: &mut Steps<L>,
 ) -> Result<Value, AllocError>
-    ensures { IfOk result (λ v. IsCompletedAt language.now kind encoding text.now position (view v)) }
+    ensures { IfOk result (λ v. IsCompletedAt language.now kind encoding text.now own.now.comments.items
+        own.now.bytes.items position (view v)) }
 {
     let lines = Lines::of(alloc, text)?;
     let page = Page {
@@ -164,29 +170,53 @@ fn completed_at<L: Ledger>(
         lines: &lines,
     };
     let byte = lines.byte_of(text, encoding, position);
-    let bytes = text.as_bytes();
+    if is_commenting(text, own, byte) {
+        return Ok(null_value());
+    }
+    let bytes = own.bytes.as_slice();
     let completion = completion_at(alloc, language, kind, bytes, byte, steps)?;
     let value = completion_value(alloc, &page, &completion)?;
     Ok(value)
 }
 
+/// Returns what may be put in place of the word at the position of a text.
+fn text_completion<L: Ledger>(
+    alloc: Global,
+    defined: &Defined,
+    kind: Kind,
+    encoding: Encoding,
+    text: &str,
+    position: Position,
+    steps: &mut Steps<L>,
+) -> Result<Value, AllocError>
+    requires fit { IsCommentOf (fixed_words defined.now.language) defined.now.comment }
+    ensures { IfOk result (λ v. OfJudged defined.now text.now (λ comments bytes.
+        IsCompletedAt defined.now.language kind encoding text.now comments bytes position (view v))) }
+{
+    let own = without_comments(alloc, defined, text)?;
+    let language = &defined.language;
+    let value = completed_at(alloc, language, kind, encoding, text, &own, position, steps)?;
+    Ok(value)
+}
+
 /// Returns what may be put in place of the word at the position of a document, whose text is to be a program of the
-/// kind: null where the text is not known. Fails only when out of memory.
+/// kind: null where the text is not known, and in a comment. Fails only when out of memory.
 pub(crate) fn document_completion<L: Ledger>(
     alloc: Global,
-    language: &Language,
+    defined: &Defined,
     kind: Kind,
     encoding: Encoding,
     document: &Document,
     position: Position,
     steps: &mut Steps<L>,
 ) -> Result<Value, AllocError>
-    ensures { IfOk result (λ v. IsCompletedIn language.now kind encoding document.now.text position (view v)) }
+    requires fit { IsCommentOf (fixed_words defined.now.language) defined.now.comment }
+    ensures { IfOk result (λ v. IsCompletedIn defined.now kind encoding document.now.text position (view v)) }
 {
     match &document.text {
         Some(text) => {
             let own = text.as_str();
-            let value = completed_at(alloc, language, kind, encoding, own, position, steps)?;
+            let value = text_completion(alloc, defined, kind, encoding, own, position, steps)?;
             Ok(value)
         }
         None => Ok(null_value()),
@@ -198,14 +228,15 @@ impl Server {
     pub(crate) fn complete<L: Ledger>(
         &self,
         alloc: Global,
-        language: &Language,
+        defined: &Defined,
         kind: Kind,
         id: &Value,
         given: Params<'_>,
         steps: &mut Steps<L>,
     ) -> Result<Reply, AllocError>
+        requires fit { IsCommentOf (fixed_words defined.now.language) defined.now.comment }
         ensures { IfOk result (λ r. (method : List ℕ) → call_of method ≡ Some calls.Completion
-            → Serves language.now kind self.now (request (view id.now) method (given_of given.entry))
+            → Serves defined.now kind self.now (request (view id.now) method (given_of given.entry))
             self.now.encoding self.now.documents (out_of r)) }
     {
         match self.place_in(given) {
@@ -214,7 +245,7 @@ impl Server {
                 let position = place.position;
                 let encoding = self.encoding;
                 let told = document_completion(
-                    alloc, language, kind, encoding, document, position, steps,
+                    alloc, defined, kind, encoding, document, position, steps,
                 )?;
                 let reply = answered(alloc, id, told)?;
                 Ok(reply)
