@@ -33,7 +33,7 @@ use Rattle.psg_server.specs.declared.server.Server.{Server}
 use Rattle.psg_server.specs.Answering.{completes, completes_none, asks, asks_none, names, names_none, names_not}
 use Rattle.psg_server.specs.Answering.{Answers, Gets, Out, Serves, changes, changes_none, closes, closes_none, exits, formats, formats_none, greets, hovers, hovers_none, is_passed, is_refused, is_served, json, no_json, opens, opens_none, sent, shuts_down, reason_of}
 use Rattle.psg_server.specs.Capabilities.{greeting_of}
-use Rattle.psg_server.specs.Completing.{AreItems, IsCompletedAt, IsCompletedIn, completed_in_comment, completed_there, no_items, one_item}
+use Rattle.psg_server.specs.Completing.{AreItems, IsCompletedAt, IsCompletedIn, completed_in_comment, completed_there, no_items, one_item, spaced}
 use Rattle.psg_server.specs.Diagnostics.{AreDiagnostics, IsPublished, IsPublishedOf, all_told, diagnostic_data, more_may_follow, one_more, publish_data, severity_of}
 use Rattle.psg_server.specs.Edits.{IsFormatting, IsFormattingOf, as_it_is, no_program, one_edit}
 use Rattle.psg_server.specs.Fields.{Renamed, changed_in, encoding_in, wants_declaring}
@@ -276,18 +276,19 @@ entries_plain encoding text c filter _ _ (one_item {es} {ds} e d is rest) =
     (entries_plain encoding text c filter es ds rest)
 
 completed_at_plain : (def : Definition) (kind : Kind) (encoding : Encoding) (text : List ℕ) (comments : List Comment)
-    (judged : List ℕ) (position : Position) (d : Data) → IsCompletedAt def kind encoding text comments judged position d
+    (judged : List ℕ) (byte : ℕ) (d : Data) → IsCompletedAt def kind encoding text comments judged byte d
     → has_float d ≡ false
-completed_at_plain def kind encoding text comments judged position d (completed_in_comment byte is inside e) = ap has_float e
-completed_at_plain def kind encoding text comments judged position d (completed_there byte c is outside completed so) =
+completed_at_plain def kind encoding text comments judged byte d (completed_in_comment inside e) = ap has_float e
+completed_at_plain def kind encoding text comments judged byte d (completed_there c outside completed so) =
+    let put = spaced text comments c in
     ap has_float so.is
-    ∙ ap (λ a. false || (a || false)) (entries_plain encoding text c so.filter c.entries.items so.items so.are)
+    ∙ ap (λ a. false || (a || false)) (entries_plain encoding text put so.filter put.entries.items so.items so.are)
 
 completed_plain : (def : Defined) (kind : Kind) (encoding : Encoding) (text : Option (List ℕ)) (position : Position)
     (d : Data) → IsCompletedIn def kind encoding text position d → has_float d ≡ false
 completed_plain def kind encoding None position d e = ap has_float e
 completed_plain def kind encoding (Some text) position d so =
-    completed_at_plain def.language kind encoding text so.comments so.judged position d so.so
+    completed_at_plain def.language kind encoding text so.asked.comments so.asked.judged so.byte d so.asked.so
 
 -- ---- what is sent
 

@@ -1,11 +1,13 @@
 //! What is judged of a text: the text without its comments.
-ghost use Rattle.std.specs.Prelude.{◌≡◌, [], IfOk, IsUtf8};
+ghost use Rattle.std.specs.Prelude.{◌≡◌, [], IfOk, IfSome, IsUtf8, Some, set, string_bytes};
 ghost use Rattle.psg_comments.specs.Blanking.{is_inside};
 ghost use Rattle.psg_comments.specs.Fitting.{IsFit};
 ghost use Rattle.psg_defcomment.specs.Reading.{IsCommentOf};
 ghost use Rattle.psg_grammar.specs.WellFormed.{fixed_words};
 ghost use Rattle.psg_program.specs.Decoding.{unmarked as unmarked_of};
-ghost use Rattle.psg_server.specs.Judging.{IsBlankedText, IsJudged, is_within, mark_of as mark, own_byte};
+ghost use Rattle.psg_server.specs.Judging as judging;
+ghost use Rattle.psg_server.specs.Judging.{IsAsked, IsBlankedText, IsJudged, IsMark, is_within};
+ghost use Rattle.psg_server.specs.Judging.{mark_of as mark, own_byte};
 
 use psg_comments::{Blanked, Comment, blank_comments};
 use psg_lexis::Lexis;
@@ -100,6 +102,104 @@ pub(crate) fn without_comments(
     match &defined.comment {
         None => as_it_is(alloc, text),
         Some(token) => blank_text(alloc, defined.language.lexis(), token.as_str(), text),
+    }
+}
+
+/// Returns the place, if a `?` is there.
+fn mark_there(text: &[u8], place: usize) -> Option<usize>
+    ensures is { result ≡ judging.mark_there text.now place }
+    ensures mark { IfSome result (IsMark text.now) }
+{
+    match text.get(place) {
+        Some(byte) => {
+            let mark = *byte == 63;
+            if mark { Some(place) } else { None }
+        }
+        None => None,
+    }
+}
+
+/// Returns the place before the byte, if a `?` is there.
+fn mark_before(text: &[u8], byte: usize) -> Option<usize>
+    ensures is { result ≡ judging.mark_before text.now byte }
+    ensures mark { IfSome result (IsMark text.now) }
+{
+    match byte.checked_sub(1) {
+        Some(last) => mark_there(text, last),
+        None => None,
+    }
+}
+
+/// Returns where a `?` is, right before the byte or at it.
+fn mark_at(text: &[u8], byte: usize) -> Option<usize>
+    ensures is { result ≡ judging.mark_at text.now byte }
+    ensures mark { IfSome result (IsMark text.now) }
+{
+    match mark_before(text, byte) {
+        Some(place) => Some(place),
+        None => mark_there(text, byte),
+    }
+}
+
+/// Returns the text with a space in place of a `?`.
+fn with_space_at(alloc: Global, text: &str, place: usize) -> Result<String, AllocError>
+    requires { IsMark text.now place }
+    ensures { IfOk result (λ bare. string_bytes bare ≡ set text.now place 32) }
+{
+    let mut bare = String::from_str(alloc, &text[..place])?;
+    bare.push(' ')?;
+    bare.push_str(&text[place + 1..])?;
+    Ok(bare)
+}
+
+/// Puts a `?` at the place, if there is a byte.
+fn put_mark(bytes: &mut [u8], place: usize)
+    ensures { bytes.new ≡ set bytes.old place 63 }
+{
+    if place < bytes.len() {
+        bytes[place] = b'?';
+    }
+}
+
+/// Returns what is judged of the text with a `?` at the place, with the comments that it has with a space there.
+fn asked_at(
+    alloc: Global,
+    defined: &Defined,
+    text: &str,
+    place: usize,
+) -> Result<Judged, AllocError>
+    requires fit { IsCommentOf (fixed_words defined.now.language) defined.now.comment }
+    requires mark { IsMark text.now place }
+    ensures { IfOk result (λ own. IsAsked (fixed_words defined.now.language) defined.now.comment text.now (Some place)
+        own.comments.items own.bytes.items) }
+{
+    let bare = with_space_at(alloc, text, place)?;
+    let mut own = without_comments(alloc, defined, bare.as_str())?;
+    put_mark(own.bytes.as_mut_slice(), place);
+    Ok(own)
+}
+
+/// Returns what is judged of the text, with its comments, where a person asks at the byte: a `?` there, or right before
+/// it, hides no comments after it. Fails only when out of memory, and takes time linear in the text.
+pub(crate) fn asked_text(
+    alloc: Global,
+    defined: &Defined,
+    text: &str,
+    byte: usize,
+) -> Result<Judged, AllocError>
+    requires fit { IsCommentOf (fixed_words defined.now.language) defined.now.comment }
+    ensures { IfOk result (λ own. IsAsked (fixed_words defined.now.language) defined.now.comment text.now
+        (judging.mark_at text.now byte) own.comments.items own.bytes.items) }
+{
+    match mark_at(text.as_bytes(), byte) {
+        Some(place) => {
+            let own = asked_at(alloc, defined, text, place)?;
+            Ok(own)
+        }
+        None => {
+            let own = without_comments(alloc, defined, text)?;
+            Ok(own)
+        }
     }
 }
 
