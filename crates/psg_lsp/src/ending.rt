@@ -1,6 +1,6 @@
 //! How the server ends.
 ghost use Rattle.std.specs.Prelude.{◌≡◌, ◌⊎◌};
-ghost use Rattle.psg_lsp.specs.Talking.{IsBroken};
+ghost use Rattle.psg_lsp.specs.Talking.{IsBroken, code_of};
 
 use psg_world::{ReadStop, WriteStop};
 
@@ -25,7 +25,9 @@ pub enum Ending {
 
 impl Ending {
     /// Returns the exit status.
-    pub fn code(self) -> u8 {
+    pub fn code(self) -> u8
+        ensures { result ≡ code_of self }
+    {
         match self {
             Ending::Told(status) => status,
             Ending::Refused => 1,
