@@ -58,16 +58,6 @@ pub data AreTaken (def : Defined) (kind : Kind) : Server → Option (List ℕ) �
 
 -- ---- how the server ends
 
--- the exit status
-abbrev pub code_of : Ending → ℕ
-code_of (endings.Told status) = status
-code_of endings.Refused = 1
-code_of endings.Words = 2
-code_of endings.ReadFault = 3
-code_of endings.WriteFault = 4
-code_of endings.Memory = 5
-code_of endings.TooLong = 6
-
 -- the output failed, or there was no memory left: then nothing is said of what was put
 abbrev pub IsBroken : Ending → Type 0
 IsBroken (endings.Told status) = ⊥

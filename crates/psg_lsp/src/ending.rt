@@ -1,6 +1,6 @@
 //! How the server ends.
 ghost use Rattle.std.specs.Prelude.{◌≡◌, ◌⊎◌};
-ghost use Rattle.psg_lsp.specs.Talking.{IsBroken, code_of};
+ghost use Rattle.psg_lsp.specs.Talking.{IsBroken};
 
 use psg_world::{ReadStop, WriteStop};
 
@@ -25,9 +25,7 @@ pub enum Ending {
 
 impl Ending {
     /// Returns the exit status.
-    pub fn code(self) -> u8
-        ensures { result ≡ code_of self }
-    {
+    pub fn code(self) -> u8 {
         match self {
             Ending::Told(status) => status,
             Ending::Refused => 1,
