@@ -1,0 +1,7 @@
+use Rattle.psg_completing.proofs.offering.or_sample.Goals as goal
+
+pub returns-then-none : goal.returns-then-none
+returns-then-none c = ?
+
+pub returns : goal.returns
+returns c = ?
