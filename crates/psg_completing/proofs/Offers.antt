@@ -1,6 +1,7 @@
 -- What is offered, one operator after the other.
-use Rattle.std.proofs.Common.{◌≡◌, ◌<◌, ◌≤◌, ◌+◌, ◌||◌, Bool, true, false, ℕ, List, [], ◌∷◌, ◌++◌, drop, length, slice_get, Option, Some, None, Result, Ok, Err, refl, sym, ap, subst, ◌∙◌}
+use Rattle.std.proofs.Common.{◌≡◌, ◌<◌, ◌≤◌, ◌+◌, ◌==◌, ◌||◌, Bool, true, false, ℕ, List, [], ◌∷◌, ◌++◌, drop, length, slice_get, Option, Some, None, Result, Ok, Err, refl, sym, ap, subst, ◌∙◌, arith}
 use Rattle.std.specs.Prelude.{String, Vec, get_or, map, nat_lt, option_map, string_bytes, take}
+use Rattle.std.proofs.lemmas.Bool.{eqb-true, true≢false}
 use Rattle.std.proofs.lemmas.Option.{none-some, same_Some}
 use Rattle.std.specs.declared.alloc.Global.{Global}
 use Rattle.std.proofs.lemmas.List.{append-nil, append_assoc, drop_all}
@@ -114,6 +115,45 @@ told_some read answer e = ap (λ (r : Option Answer). lines_of (option_map read_
 
 pub told_nothing : (read : Option Answer) → read ≡ None → [] ≡ lines_of (option_map read_of read)
 told_nothing read e = ap (λ (r : Option Answer). lines_of (option_map read_of r)) (sym e)
+
+-- ---- names that are written
+
+-- each name begins with nothing
+begun_nothing : (names : List Name) → begun [] names ≡ names
+begun_nothing [] = refl
+begun_nothing (name ∷ names) = ap (λ l. name ∷ l) (begun_nothing names)
+
+others_if : (names others : List Name) → (length names == 0) ≡ true → or_those names others ≡ others
+others_if [] others e = refl
+others_if (name ∷ names) others e =
+    let none : length (name ∷ names) ≡ 0 = eqb-true (length (name ∷ names)) 0 e in absurd (omega (arith, none))
+
+those_if : (names others : List Name) → (length names == 0) ≡ false → or_those names others ≡ names
+those_if [] others e = absurd (true≢false e)
+those_if (name ∷ names) others e = refl
+
+-- what a test of a row says of the names that it has
+told_of : (names row : List Name) (none b : Bool) → row ≡ names → none ≡ (length row == 0) → none ≡ b
+    → (length names == 0) ≡ b
+told_of names row none b is n e = ap (λ l. length l == 0) (sym is) ∙ sym n ∙ e
+
+pub others_of : (names row others : List Name) (none : Bool) → row ≡ names → none ≡ (length row == 0) → none ≡ true
+    → others ≡ or_those names others
+others_of names row others none is n e = sym (others_if names others (told_of names row none true is n e))
+
+pub those_of : (names row others : List Name) (none : Bool) → row ≡ names → none ≡ (length row == 0) → none ≡ false
+    → names ≡ or_those names others
+those_of names row others none is n e = sym (those_if names others (told_of names row none false is n e))
+
+pub all_begun : (prefix : List ℕ) (names some row all : List Name) (none : Bool) → some ≡ begun prefix names
+    → row ≡ some → none ≡ (length row == 0) → none ≡ true → all ≡ begun [] names → all ≡ begun_or_all prefix names
+all_begun prefix names some row all none s is n e a =
+    a ∙ begun_nothing names ∙ others_of some row names none is n e ∙ ap (λ l. or_those l names) s
+
+pub some_begun : (prefix : List ℕ) (names some row : List Name) (none : Bool) → some ≡ begun prefix names
+    → row ≡ some → none ≡ (length row == 0) → none ≡ false → some ≡ begun_or_all prefix names
+some_begun prefix names some row none s is n e =
+    those_of some row names none is n e ∙ ap (λ l. or_those l names) s
 
 -- ---- an operator by its name
 
