@@ -55,7 +55,8 @@ local function run()
     return told and told.contents.value
   end)
   -- no name begins with the word: all that fit an assignment, and none that fits a call yet
-  want("completion", { "begin ... do ... end", "x := ?Exp", "call name(...)", "while ?Exp do ... od", "skip" }, function()
+  local entries = { "begin ... do ... end", "x := ?Exp", "call name(...)", "while ?Exp do ... od", "skip" }
+  want("completion", entries, function()
     local told = asked("textDocument/completion", 1, 4)
     return told and vim.tbl_map(function(item) return item.label end, told.items)
   end)

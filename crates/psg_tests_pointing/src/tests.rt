@@ -241,19 +241,22 @@ const ENTRIES: &[(&str, usize, &str)] = &[
     (
         "begin\n  var n : bool\ndo\n  n := true\n  \nend",
         38,
-        "38-38 [; ][] block=begin ... do ... end|assign=n := ?Exp|call=call name(...)|while=while ?Exp do ... od|skip=skip|",
+        "38-38 [; ][] block=begin ... do ... end|assign=n := ?Exp|call=call name(...)|\
+        while=while ?Exp do ... od|skip=skip|",
     ),
     // a statement before another; the variable does not begin so
     (
         "begin\n  var n : bool\ndo\n  sk\n  n := true\nend",
         28,
-        "26-28 [][ ;] block=begin ... do ... end|assign=n := ?Exp|call=call name(...)|while=while ?Exp do ... od|skip=skip|",
+        "26-28 [][ ;] block=begin ... do ... end|assign=n := ?Exp|call=call name(...)|\
+        while=while ?Exp do ... od|skip=skip|",
     ),
     // the beginning of an operator's own word
     (
         "begin\n  proc p() skip\ndo\n  cal\nend",
         30,
-        "27-30 [][] block=begin ... do ... end|assign=name := ?Exp|call=call p(...)|while=while ?Exp do ... od|skip=skip|",
+        "27-30 [][] block=begin ... do ... end|assign=name := ?Exp|call=call p(...)|\
+        while=while ?Exp do ... od|skip=skip|",
     ),
     // nothing reads there
     ("begin (", 7, "7-7 [][] "),
@@ -271,7 +274,8 @@ fn entries_are_told(rt: HostRuntime) -> Result<(), Fail> {
 }
 
 /// A language in which `name` and `name_` are fixed words.
-const NAMED: &str = "psg 1\nsort Unit = ok\nsort Ent = var\nentity Ent\nphylum Item : Unit\nop use : Item = \"name\" refers\nrow ok : var\nop two : Item = \"name_\"\nrow ok\nhole Item ok by two\n";
+const NAMED: &str = "psg 1\nsort Unit = ok\nsort Ent = var\nentity Ent\nphylum Item : Unit\n\
+    op use : Item = \"name\" refers\nrow ok : var\nop two : Item = \"name_\"\nrow ok\nhole Item ok by two\n";
 
 #[test]
 fn samples_are_names(rt: HostRuntime) -> Result<(), Fail> {
