@@ -1,5 +1,5 @@
-// A client of psg's language server for VS Code. It was not tried. `npm install` in this folder, and then link the folder into
-// ~/.vscode/extensions. For another language change `melody` in package.json and below.
+// A client of psg's language server for VS Code. It was not tried. docs/EDITORS.md says how it is installed.
+// For another language change `melody` in package.json and below.
 const { workspace } = require("vscode");
 const { LanguageClient } = require("vscode-languageclient/node");
 
