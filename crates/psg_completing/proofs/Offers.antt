@@ -20,7 +20,9 @@ use Rattle.psg_grammar.specs.declared.types.Operator.{Operator}
 use Rattle.psg_grammar.specs.Kinds.{op_name_of}
 use Rattle.psg_keymap.specs.Leaves.{leaves_of}
 use Rattle.psg_asking.specs.Asked.{IsToldOf, Read, names_of}
-use Rattle.psg_completing.specs.Offering.{AreJoined, AreOffered, IsOffered, begun, begun_or_all, by_itself, by_names, entries_with, most_names, no_more, one_more, one_name, or_those, unknown, written_names}
+use Rattle.psg_completing.specs.Offering.{AreJoined, AreOffered, IsOffered, begun, begun_or_all, by_itself, by_names}
+use Rattle.psg_completing.specs.Offering.{entries_with, most_names, no_more, one_more, one_name, or_those, unknown}
+use Rattle.psg_completing.specs.Offering.{written_names}
 
 -- ---- a row that is mapped, one after the other
 
@@ -55,7 +57,8 @@ or_assoc : (a b c : Bool) → ((a || b) || c) ≡ (a || (b || c))
 or_assoc true b c = refl
 or_assoc false b c = refl
 
-module _ (def : Definition) (kind : Kind) (tree : Fragment) (spot : Spot) (least : ℕ) (sample : Name) (prefix : List ℕ) where
+module _ (def : Definition) (kind : Kind) (tree : Fragment) (spot : Spot) (least : ℕ) (sample : Name)
+    (prefix : List ℕ) where
   abbrev Offered : List Name → List Entry → Bool → Type 0
   Offered ops entries more = AreOffered def kind tree spot least sample prefix ops entries more
 
@@ -168,10 +171,12 @@ pub own_name : (o : Option Operator) (op : Operator) (name : Name) → o ≡ Som
 own_name o op name is e =
     same_Some op.name name (sym (ap (option_map (λ (x : Operator). x.name)) is) ∙ e)
 
-module _ (def : Definition) (kind : Kind) (tree : Fragment) (spot : Spot) (least : ℕ) (sample : Name) (prefix : List ℕ) where
+module _ (def : Definition) (kind : Kind) (tree : Fragment) (spot : Spot) (least : ℕ) (sample : Name)
+    (prefix : List ℕ) where
   pub by_names_of : (op : ℕ) (own name : Name) (told : Option Read) (names some : List Name) (entries : List Entry)
       (more : Bool) → op_name_of def op ≡ Some name → own ≡ name → one_name (leaves_of def name) ≡ true
-      → IsToldOf def kind tree spot (names_of name) (names_told tree) told → names ≡ written_names sample prefix (lines_of told)
+      → IsToldOf def kind tree spot (names_of name) (names_told tree) told
+      → names ≡ written_names sample prefix (lines_of told)
       → some ≡ take most_names names → entries ≡ entries_with def least own op some
       → more ≡ nat_lt most_names (length names) → IsOffered def kind tree spot least sample prefix name entries more
   by_names_of op own name told names some entries more is same one told_is n s e m =
@@ -179,7 +184,8 @@ module _ (def : Definition) (kind : Kind) (tree : Fragment) (spot : Spot) (least
       (subst (λ b. IsOffered def kind tree spot least sample prefix name
       (entries_with def least name op (take most_names (written_names sample prefix (lines_of told)))) b) (sym more_is)
       (by_names op told is one told_is)) where
-        entries_is : entries ≡ entries_with def least name op (take most_names (written_names sample prefix (lines_of told)))
+        entries_is : entries
+            ≡ entries_with def least name op (take most_names (written_names sample prefix (lines_of told)))
         entries_is =
             e ∙ ap (λ x. entries_with def least x op some) same
             ∙ ap (entries_with def least name op) (s ∙ ap (take most_names) n)

@@ -1,5 +1,7 @@
 -- `name` with `_` after it is a word, and a fixed word is no longer than all of them together.
-use Rattle.std.proofs.Common.{◌≡◌, inl, inr, ℕ, zero, suc, ◌<◌, ◌≤◌, ◌+◌, ◌-◌, ◌==◌, ◌||◌, ◌↔◌, Bool, true, false, List, [], ◌∷◌, ◌++◌, length, bytes_eq, chars, codes, length-append, refl, ap, sym, ◌∙◌, subst, arith}
+use Rattle.std.proofs.Common.{◌≡◌, inl, inr, ℕ, zero, suc, ◌<◌, ◌≤◌, ◌+◌, ◌-◌, ◌==◌, ◌||◌, ◌↔◌, Bool, true, false}
+use Rattle.std.proofs.Common.{List, [], ◌∷◌, ◌++◌, length, bytes_eq, chars, codes, length-append, refl, ap, sym, ◌∙◌}
+use Rattle.std.proofs.Common.{subst, arith}
 use Rattle.std.specs.Prelude.{encode_utf8_all, IsTrue}
 use Rattle.std.specs.Char.{is_ascii_alphabetic, is_ascii_alphanumeric}
 use Rattle.std.specs.List.{AllByRecursion}
@@ -27,7 +29,13 @@ strokes_go (suc n) = (goes 95 (omega arith) refl, strokes_go n)
 
 is_word : (n : ℕ) → IsWord (name_with n)
 is_word n =
-    (starts 110 (omega arith) refl, (goes 97 (omega arith) refl, (goes 109 (omega arith) refl, (goes 101 (omega arith) refl, strokes_go n))))
+    (
+      starts 110 (omega arith) refl,
+      (
+        goes 97 (omega arith) refl,
+        (goes 109 (omega arith) refl, (goes 101 (omega arith) refl, strokes_go n)),
+      ),
+    )
 
 -- ---- its bytes and its characters
 

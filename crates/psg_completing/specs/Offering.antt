@@ -77,13 +77,14 @@ one_name (leaf ∷ more) = is_used leaf && (length more == 0)
 
 module _ (def : Definition) (kind : Kind) (tree : Fragment) (spot : Spot) (least : ℕ) (sample : Name)
     (prefix : List ℕ) where
-  -- The entries of an operator. One that has a name that it uses, and nothing else that is typed, has an entry for each
-  -- name with which it fits that begins so, up to a hundred; for each name with which it fits, where none begins so; and
-  -- one entry with the sample, where it fits with none. Each other one has one entry with the sample.
+  -- The entries of an operator. If a name that it uses is all that is typed, it has an entry for each name with which it
+  -- fits that begins so, or for each with which it fits if none begins so, at most a hundred; and one entry with the
+  -- sample if it fits with none. Each other operator has one entry, with the sample.
   pub data IsOffered (op : Name) : List Entry → Bool → Type 0 where
     by_names : (o : ℕ) (told : Option Read) → op_name_of def o ≡ Some op → one_name (leaves_of def op) ≡ true
         → IsToldOf def kind tree spot (names_of op) (names_told tree) told
-        → IsOffered op (entries_with def least op o (take most_names (written_names sample prefix (lines_of told))))
+        → IsOffered op
+        (entries_with def least op o (take most_names (written_names sample prefix (lines_of told))))
         (nat_lt most_names (length (written_names sample prefix (lines_of told))))
     by_itself : (o : ℕ) → op_name_of def o ≡ Some op → one_name (leaves_of def op) ≡ false
         → IsOffered op (entries_with def least op o (sample ∷ [])) false
