@@ -28,14 +28,13 @@ strokes_go zero = tt
 strokes_go (suc n) = (goes 95 (omega arith) refl, strokes_go n)
 
 is_word : (n : ℕ) → IsWord (name_with n)
-is_word n =
-    (
-      starts 110 (omega arith) refl,
-      (
-        goes 97 (omega arith) refl,
-        (goes 109 (omega arith) refl, (goes 101 (omega arith) refl, strokes_go n)),
-      ),
-    )
+is_word n = (
+  starts 110 (omega arith) refl,
+  (
+    goes 97 (omega arith) refl,
+    (goes 109 (omega arith) refl, (goes 101 (omega arith) refl, strokes_go n)),
+  ),
+)
 
 -- ---- its bytes and its characters
 
@@ -99,7 +98,7 @@ pub record IsSoFar (words : List Name) (name : Name) : Type 0 where
   pub taken : (n : ℕ) → n < many → IsFreeWord words (name_with n) → ⊥
 
 pub first_name : (words : List Name) (name : Name) → name ≡ codes "name" → IsSoFar words name
-first_name words name e = record { many = 0; is = e; taken = λ n lt. absurd (omega (arith, lt)); }
+first_name words name e = record { many = 0; is = e; taken = λ n lt. absurd (omega (arith, lt)) }
 
 pub next_name : (words : List Name) (old new : Name) → IsSoFar words old → is_among words old ≡ true
     → new ≡ old ++ 95 ∷ [] → IsSoFar words new

@@ -111,11 +111,7 @@ fn push_begun(
 }
 
 /// Returns those of the names that begin so, or all of them where none begins so.
-fn begun_or_all(
-    alloc: Global,
-    prefix: &[u8],
-    names: &[String],
-) -> Result<Vec<Txt>, AllocError>
+fn begun_or_all(alloc: Global, prefix: &[u8], names: &[String]) -> Result<Vec<Txt>, AllocError>
     ensures { IfOk result (λ kept. kept.items ≡ offered.begun_or_all prefix.now (map string_bytes names.now)) }
 {
     let some = begun(alloc, prefix, names)?;
