@@ -54,7 +54,9 @@ local function run()
     local told = asked("textDocument/hover", 1, 2)
     return told and told.contents.value
   end)
-  want("completion", { "begin ... do ... end", "while ?Exp do ... od", "skip" }, function()
+  -- no name begins with the word: all that fit an assignment, and none that fits a call yet
+  local entries = { "begin ... do ... end", "x := ?Exp", "call name(...)", "while ?Exp do ... od", "skip" }
+  want("completion", entries, function()
     local told = asked("textDocument/completion", 1, 4)
     return told and vim.tbl_map(function(item) return item.label end, told.items)
   end)
