@@ -35,6 +35,7 @@ local function run()
   local file = vim.fn.tempname() .. ".mini"
   vim.fn.writefile({ "x := 1;", "𝒳 :=  true;", "x := 𝒳" }, file)
   vim.cmd("edit " .. file)
+  want("the menu's key", "v:lua.vim.lsp.omnifunc", function() return vim.bo.omnifunc end)
   -- the column of the last line is that of a text in which a character has two units
   want("diagnostics", {
     "0:0-0:1 2 x is not declared",
