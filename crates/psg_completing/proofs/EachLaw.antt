@@ -1,6 +1,6 @@
 -- Each operator that is offered has an entry.
 use Rattle.std.proofs.Common.{◌≡◌, ◌<◌, Bool, ℕ, zero, suc, List, [], ◌∷◌, ◌++◌, Some, refl, sym, subst, arith}
-use Rattle.std.specs.Prelude.{map, take}
+use Rattle.std.specs.Prelude.{take}
 use Rattle.std.proofs.lemmas.List.{map-append}
 use Rattle.psg_terms.specs.Names.{Name}
 use Rattle.psg_grammar.specs.declared.types.Definition.{Definition}
