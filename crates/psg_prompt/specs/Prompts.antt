@@ -1,5 +1,5 @@
 -- What keys make of a prompt, and what is told of them.
-use Rattle.std.specs.Prelude.{ℕ, ◌≡◌, ◌≤◌, ◌⊎◌, ◌==◌, ◌&&◌, Bool, true, false, List, [], ◌∷◌, ◌++◌}
+use Rattle.std.specs.Prelude.{ℕ, zero, suc, ◌≡◌, ◌≤◌, ◌⊎◌, ◌==◌, ◌&&◌, Bool, true, false, List, [], ◌∷◌, ◌++◌}
 use Rattle.std.specs.Prelude.{length, reverse, take, unwrap_or, encode_utf8_all, if◌then◌else◌}
 use Rattle.psg_keys.specs.Lines.{Typed, TypedLines, lines_after, kept_after, with_put}
 use Rattle.psg_keys.specs.Reading.{Spelled}
@@ -26,7 +26,7 @@ abbrev pub pressed : TypedLines → Key → TypedLines
 pressed lines key = unwrap_or (lines_after lines key) lines
 
 abbrev pub pressed_times : ℕ → Key → TypedLines → TypedLines
-pressed_times 0 key lines = lines
+pressed_times zero key lines = lines
 pressed_times (suc count) key lines = pressed_times count key (pressed lines key)
 
 abbrev pub typed_all : List ℕ → TypedLines → TypedLines

@@ -1,5 +1,5 @@
 -- The row of a terminal that a prompt draws: the part of the line around its cursor.
-use Rattle.std.specs.Prelude.{ℕ, ◌+◌, ◌-◌, ◌*◌, ◌/◌, ◌==◌, ◌&&◌, ◌||◌, not, max, nat_lt, nat_le, Bool, List, [], ◌∷◌, ◌++◌}
+use Rattle.std.specs.Prelude.{ℕ, ◌+◌, ◌-◌, ◌*◌, ◌/◌, ◌==◌, ◌&&◌, ◌||◌, max, nat_lt, nat_le, Bool, false, List, [], ◌∷◌, ◌++◌}
 use Rattle.std.specs.Prelude.{length, take, drop, map, reverse, unwrap_or, decimal, codes, encode_utf8_all, if◌then◌else◌}
 use Rattle.unicode_width.specs.Width.{char_width}
 use Rattle.psg_keys.specs.Lines.{Typed}
