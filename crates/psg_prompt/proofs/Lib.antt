@@ -1,0 +1,2 @@
+pub mod PromptLaws
+pub mod RunningLaws

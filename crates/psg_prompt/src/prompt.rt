@@ -71,10 +71,7 @@ impl Prompt {
     pub fn remember(&mut self, alloc: Global, text: &[char]) -> Result<(), AllocError>
         ensures { OnOk result (self.new ≡ prompts.with_lines self.old (remembered text.now self.old.lines)) }
     {
-        for c in text {
-            remember_one(alloc, &mut self.lines, *c)?;
-        }
-        self.lines.keep(alloc)?;
+        remember_all(alloc, &mut self.lines, text)?;
         self.tabbed = false;
         Ok(())
     }
@@ -269,6 +266,16 @@ fn push_all(out: &mut String, chars: &[char]) -> Result<(), AllocError>
     Ok(())
 }
 
+/// Takes the lines of a text as earlier lines.
+fn remember_all(alloc: Global, lines: &mut Lines, text: &[char]) -> Result<(), AllocError>
+    ensures { OnOk result (lines.new ≡ remembered text.now lines.old) }
+{
+    for c in text {
+        remember_one(alloc, lines, *c)?;
+    }
+    lines.keep(alloc)
+}
+
 /// Takes one character of earlier lines.
 fn remember_one(alloc: Global, lines: &mut Lines, c: char) -> Result<(), AllocError>
     ensures { OnOk result (lines.new
@@ -285,7 +292,7 @@ fn remember_one(alloc: Global, lines: &mut Lines, c: char) -> Result<(), AllocEr
 fn press_times(alloc: Global, lines: &mut Lines, key: Key, count: usize) -> Result<(), AllocError>
     ensures { OnOk result (lines.new ≡ pressed_times count key lines.old) }
 {
-    for _ in 0..count {
+    for _turn in 0..count {
         lines.press(alloc, key)?;
     }
     Ok(())

@@ -1,0 +1,54 @@
+-- What is told of keys, one after the other.
+use Rattle.std.proofs.Common.{◌≡◌, ℕ, ◌+◌, ◌<◌, ◌≤◌, List, [], ◌∷◌, ◌++◌, length, take, get_or, refl, sym, ap, ◌∙◌, append-nil, append_assoc, arith, inl, inr}
+use Rattle.std.proofs.lemmas.List.{take_more, take_all}
+use Rattle.psg_keys.specs.Reading.{Spelled}
+use Rattle.psg_prompt.specs.Prompts.{Prompted, after_key, after_keys, told_key, told_keys, IsToldOrNot, IsToldOfFirst}
+
+pub after_last : (p : Prompted) (front : List Spelled) (s : Spelled) → after_keys p (front ++ s ∷ []) ≡ after_key (after_keys p front) s.key
+after_last p [] s = refl
+after_last p (t ∷ front) s = after_last (after_key p t.key) front s
+
+pub told_last : (p : Prompted) (front : List Spelled) (s : Spelled)
+    → told_keys p (front ++ s ∷ []) ≡ told_keys p front ++ told_key (after_keys p front) s.key
+told_last p [] s = append-nil (told_key p s.key)
+told_last p (t ∷ front) s =
+    ap (λ x. told_key p t.key ++ x) (told_last (after_key p t.key) front s)
+    ∙ sym (append_assoc (told_key p t.key) (told_keys (after_key p t.key) front) (told_key (after_keys (after_key p t.key) front) s.key))
+
+one_more : (xs : List Spelled) (i : ℕ) (s : Spelled) → i < length xs → s ≡ get_or xs i s → take (i + 1) xs ≡ take i xs ++ s ∷ []
+one_more xs i s lt e = take_more xs i s lt ∙ ap (λ x. take i xs ++ x ∷ []) (sym e)
+
+module _ (p now next : Prompted) (xs : List Spelled) (i : ℕ) (s : Spelled) (lt : i < length xs) (e : s ≡ get_or xs i s) (pressed : now ≡ after_keys p (take i xs)) where
+  pub pressed_more : next ≡ after_key now s.key → next ≡ after_keys p (take (i + 1) xs)
+  pressed_more h =
+      h ∙ ap (λ x. after_key x s.key) pressed ∙ sym (after_last p (take i xs) s)
+      ∙ ap (after_keys p) (sym (one_more xs i s lt e))
+
+  pub told_more : (before mid after : List ℕ) → mid ≡ before ++ told_keys p (take i xs) → after ≡ mid ++ told_key now s.key
+      → after ≡ before ++ told_keys p (take (i + 1) xs)
+  told_more before mid after told h =
+      h ∙ ap (λ x. x ++ told_key now s.key) told ∙ append_assoc before (told_keys p (take i xs)) (told_key now s.key)
+      ∙ ap (λ q. before ++ (told_keys p (take i xs) ++ told_key q s.key)) pressed
+      ∙ ap (λ x. before ++ x) (sym (told_last p (take i xs) s))
+      ∙ ap (λ x. before ++ told_keys p x) (sym (one_more xs i s lt e))
+
+  pub told_first : (before mid after : List ℕ) → mid ≡ before ++ told_keys p (take i xs)
+      → IsToldOrNot (told_key now s.key) mid after → IsToldOfFirst p xs before after
+  told_first before mid after told h =
+      elim h [
+        | inl none ↦ (i, omega (arith, lt), none ∙ told)
+        | inr all ↦ (i + 1, omega (arith, lt), told_more before mid after told all)
+      ]
+
+pub pressed_end : (p now : Prompted) (xs : List Spelled) (i : ℕ) → length xs ≤ i → now ≡ after_keys p (take i xs) → now ≡ after_keys p xs
+pressed_end p now xs i le h = h ∙ ap (after_keys p) (take_all i xs le)
+
+pub told_end_of : (p : Prompted) (xs : List Spelled) (i : ℕ) → length xs ≤ i → (before after : List ℕ)
+    → after ≡ before ++ told_keys p (take i xs) → after ≡ before ++ told_keys p xs
+told_end_of p xs i le before after h = h ∙ ap (λ x. before ++ told_keys p x) (take_all i xs le)
+
+-- all keys are told of, and nothing after them
+pub told_whole : (p : Prompted) (xs : List Spelled) (before after : List ℕ) → after ≡ before ++ told_keys p xs
+    → IsToldOfFirst p xs before after
+told_whole p xs before after h =
+    (length xs, omega arith, h ∙ ap (λ x. before ++ told_keys p x) (sym (take_all (length xs) xs (omega arith))))
