@@ -1,0 +1,18 @@
+use Rattle.psg_prompt.proofs.PromptLaws.{pressed_end, pressed_more, told_end_of, told_first, told_more}
+use Rattle.psg_prompt.proofs.prompt.Prompt.press_all.Goals as goal
+
+pub loop-number-preserved : goal.loop-number-preserved
+loop-number-preserved c = record {
+  pressed = pressed_more _ _ _ c.args.strokes.now c.loop-number.number c.index-strokes-number.result c.loop-number-test.true
+      c.index-strokes-number.is c.loop-number.invariant.pressed ?;
+  told = told_more _ _ ? c.args.strokes.now c.loop-number.number c.index-strokes-number.result c.loop-number-test.true
+      c.index-strokes-number.is c.loop-number.invariant.pressed _ _ _ c.loop-number.invariant.told ?;
+}
+
+pub returns-clause-pressed : goal.returns-clause-pressed
+returns-clause-pressed c =
+    pressed_end _ _ c.args.strokes.now c.loop-number.number c.loop-number-test.false c.loop-number.invariant.pressed
+
+pub returns-clause-told : goal.returns-clause-told
+returns-clause-told c =
+    told_end_of _ c.args.strokes.now c.loop-number.number c.loop-number-test.false _ _ c.loop-number.invariant.told
