@@ -1,8 +1,10 @@
 -- What is told of keys, one after the other.
-use Rattle.std.proofs.Common.{◌≡◌, ℕ, ◌+◌, ◌<◌, ◌≤◌, List, [], ◌∷◌, ◌++◌, length, take, get_or, refl, sym, ap, ◌∙◌, append-nil, append_assoc, arith, inl, inr}
+use Rattle.std.proofs.Common.{◌≡◌, ℕ, suc, ◌+◌, ◌-◌, ◌<◌, ◌≤◌, List, [], ◌∷◌, ◌++◌, length, take, get_or, refl, sym, ap, ◌∙◌, append-nil, append_assoc, arith, inl, inr}
 use Rattle.std.proofs.lemmas.List.{take_more, take_all}
+use Rattle.psg_keys.specs.Lines.{TypedLines}
 use Rattle.psg_keys.specs.Reading.{Spelled}
-use Rattle.psg_prompt.specs.Prompts.{Prompted, after_key, after_keys, told_key, told_keys, IsToldOrNot, IsToldOfFirst}
+use Rattle.psg_keys.specs.declared.key.Key.{Key}
+use Rattle.psg_prompt.specs.Prompts.{Prompted, pressed, pressed_times, after_key, after_keys, told_key, told_keys, IsToldOrNot, IsToldOfFirst}
 
 pub after_last : (p : Prompted) (front : List Spelled) (s : Spelled) → after_keys p (front ++ s ∷ []) ≡ after_key (after_keys p front) s.key
 after_last p [] s = refl
@@ -52,3 +54,11 @@ pub told_whole : (p : Prompted) (xs : List Spelled) (before after : List ℕ) �
     → IsToldOfFirst p xs before after
 told_whole p xs before after h =
     (length xs, omega arith, h ∙ ap (λ x. before ++ told_keys p x) (sym (take_all (length xs) xs (omega arith))))
+
+-- one press more, of those that are left
+pub times_next : (count turn : ℕ) → turn < count → (key : Key) (a b first : TypedLines) → b ≡ pressed a key
+    → pressed_times (count - turn) key a ≡ pressed_times count key first
+    → pressed_times (count - (turn + 1)) key b ≡ pressed_times count key first
+times_next count turn lt key a b first h all =
+    let e : count - turn ≡ suc (count - (turn + 1)) = omega (arith, lt) in
+    ap (pressed_times (count - (turn + 1)) key) h ∙ sym (ap (λ n. pressed_times n key a) e) ∙ all
