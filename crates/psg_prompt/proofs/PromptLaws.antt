@@ -1,10 +1,13 @@
 -- What is told of keys, one after the other.
-use Rattle.std.proofs.Common.{◌≡◌, ℕ, suc, ◌+◌, ◌-◌, ◌<◌, ◌≤◌, List, [], ◌∷◌, ◌++◌, length, take, get_or, refl, sym, ap, ◌∙◌, append-nil, append_assoc, arith, inl, inr}
+use Rattle.std.proofs.Common.{◌≡◌, ℕ, Bool, true, false, suc, ◌+◌, ◌-◌, ◌<◌, ◌≤◌, List, [], ◌∷◌, ◌++◌, length, take, get_or, refl, sym, ap, ◌∙◌, append-nil, append_assoc, arith, inl, inr}
 use Rattle.std.proofs.lemmas.List.{take_more, take_all}
 use Rattle.psg_keys.specs.Lines.{TypedLines}
 use Rattle.psg_keys.specs.Reading.{Spelled}
 use Rattle.psg_keys.specs.declared.key.Key.{Key}
-use Rattle.psg_prompt.specs.Prompts.{Prompted, pressed, pressed_times, after_key, after_keys, told_key, told_keys, IsToldOrNot, IsToldOfFirst}
+use Rattle.psg_prompt.specs.declared.act.Act.{Act}
+use Rattle.psg_prompt.specs.Acts.{act_of}
+use Rattle.std.specs.Prelude.{if◌then◌else◌}
+use Rattle.psg_prompt.specs.Prompts.{Prompted, changed, told, pressed, pressed_times, after_key, after_keys, told_key, told_keys, IsToldOrNot, IsToldOfFirst}
 
 pub after_last : (p : Prompted) (front : List Spelled) (s : Spelled) → after_keys p (front ++ s ∷ []) ≡ after_key (after_keys p front) s.key
 after_last p [] s = refl
@@ -62,3 +65,26 @@ pub times_next : (count turn : ℕ) → turn < count → (key : Key) (a b first 
 times_next count turn lt key a b first h all =
     let e : count - turn ≡ suc (count - (turn + 1)) = omega (arith, lt) in
     ap (pressed_times (count - (turn + 1)) key) h ∙ sym (ap (λ n. pressed_times n key a) e) ∙ all
+
+-- ---- one key
+
+pub ended_after : (p : Prompted) (key : Key) → p.ended ≡ true → p ≡ after_key p key
+ended_after p key h =
+    sym (ap (λ (b : Bool). let next : Prompted = if b then p else changed p (act_of key) in next) h)
+
+pub ended_told : (p : Prompted) (key : Key) (before : List ℕ) → p.ended ≡ true → before ≡ before ++ told_key p key
+ended_told p key before h =
+    sym (append-nil before)
+    ∙ ap (λ (b : Bool). before ++ (if b then [] else told p (act_of key))) (sym h)
+
+pub pressed_so : (p next : Prompted) (key : Key) (act : Act) → p.ended ≡ false → act ≡ act_of key → next ≡ changed p act
+    → next ≡ after_key p key
+pressed_so p next key act h is e =
+    e ∙ ap (changed p) is
+    ∙ sym (ap (λ (b : Bool). let then : Prompted = if b then p else changed p (act_of key) in then) h)
+
+pub told_so : (p : Prompted) (key : Key) (act : Act) (before text after : List ℕ) → p.ended ≡ false → act ≡ act_of key
+    → text ≡ told p act → after ≡ before ++ text → after ≡ before ++ told_key p key
+told_so p key act before text after h is e f =
+    f ∙ ap (λ x. before ++ x) (e ∙ ap (told p) is)
+    ∙ ap (λ (b : Bool). before ++ (if b then [] else told p (act_of key))) (sym h)

@@ -90,7 +90,7 @@ impl Prompt {
             (string_bytes out.new)) }
     {
         for number in 0..strokes.len() {
-            self.press(alloc, strokes[number].key(), out)?;
+            self.press(alloc, &strokes[number], out)?;
         }
         Ok(())
     }
@@ -110,16 +110,22 @@ impl Prompt {
     }
 
     /// Does what the key does, and adds what is told of it.
-    fn press(&mut self, alloc: Global, key: Key, out: &mut String) -> Result<(), AllocError>
-        ensures pressed { OnOk result (self.new ≡ after_key self.old key) }
-        ensures told { OnOk result (string_bytes out.new ≡ string_bytes out.old ++ told_key self.old key) }
-        ensures memory { OnErr result (prompts.IsToldOrNot (told_key self.old key) (string_bytes out.old)
+    fn press(
+        &mut self,
+        alloc: Global,
+        stroke: &Stroke,
+        out: &mut String,
+    ) -> Result<(), AllocError>
+        ensures pressed { OnOk result (self.new ≡ after_key self.old stroke.now.key) }
+        ensures told { OnOk result (string_bytes out.new
+            ≡ string_bytes out.old ++ told_key self.old stroke.now.key) }
+        ensures memory { OnErr result (prompts.IsToldOrNot (told_key self.old stroke.now.key) (string_bytes out.old)
             (string_bytes out.new)) }
     {
-        if self.ended {
+        if self.is_ended() {
             return Ok(());
         }
-        let act = act_of(key);
+        let act = act_of(stroke.key());
         let text = self.told(alloc, act)?;
         out.push_str(text.as_str())?;
         self.change(alloc, act)?;

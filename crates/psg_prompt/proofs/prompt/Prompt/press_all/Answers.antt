@@ -4,10 +4,15 @@ use Rattle.psg_prompt.proofs.prompt.Prompt.press_all.Goals as goal
 pub loop-number-preserved : goal.loop-number-preserved
 loop-number-preserved c = record {
   pressed = pressed_more _ _ _ c.args.strokes.now c.loop-number.number c.index-strokes-number.result c.loop-number-test.true
-      c.index-strokes-number.is c.loop-number.invariant.pressed ?;
-  told = told_more _ _ ? c.args.strokes.now c.loop-number.number c.index-strokes-number.result c.loop-number-test.true
-      c.index-strokes-number.is c.loop-number.invariant.pressed _ _ _ c.loop-number.invariant.told ?;
+      c.index-strokes-number.is c.loop-number.invariant.pressed c.in_ok-press.ensures.pressed;
+  told = told_more _ _ c.press.new.self c.args.strokes.now c.loop-number.number c.index-strokes-number.result c.loop-number-test.true
+      c.index-strokes-number.is c.loop-number.invariant.pressed _ _ _ c.loop-number.invariant.told c.in_ok-press.ensures.told;
 }
+
+pub returns-in_err-press-clause-memory : goal.returns-in_err-press-clause-memory
+returns-in_err-press-clause-memory c =
+    told_first _ _ c.press.new.self c.args.strokes.now c.loop-number.number c.index-strokes-number.result c.loop-number-test.true
+    c.index-strokes-number.is c.loop-number.invariant.pressed _ _ _ c.loop-number.invariant.told c.in_err-press.ensures.memory
 
 pub returns-clause-pressed : goal.returns-clause-pressed
 returns-clause-pressed c =
