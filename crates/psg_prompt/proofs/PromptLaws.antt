@@ -81,7 +81,7 @@ pub pressed_so : (p next : Prompted) (key : Key) (act : Act) → p.ended ≡ fal
     → next ≡ after_key p key
 pressed_so p next key act h is e =
     e ∙ ap (changed p) is
-    ∙ sym (ap (λ (b : Bool). let then : Prompted = if b then p else changed p (act_of key) in then) h)
+    ∙ sym (ap (λ (b : Bool). let grown : Prompted = if b then p else changed p (act_of key) in grown) h)
 
 pub told_so : (p : Prompted) (key : Key) (act : Act) (before text after : List ℕ) → p.ended ≡ false → act ≡ act_of key
     → text ≡ told p act → after ≡ before ++ text → after ≡ before ++ told_key p key

@@ -1,6 +1,7 @@
 -- What a run of a prompt writes.
 use Rattle.std.proofs.Common.{◌≡◌, ℕ, ◌+◌, ◌-◌, ◌^◌, ◌<◌, ◌≤◌, false, true, List, [], ◌++◌, Option, Some, None, refl, sym, ap, ◌∙◌, append-nil, append_assoc, subst, length, take, inl, inr}
-use Rattle.std.specs.Prelude.{Result, Ok, Err, IfErr}
+use Rattle.std.specs.Prelude.{Result, Ok, Err, OnOk, OnErr}
+use Rattle.std.specs.declared.alloc.AllocError.{AllocError}
 use Rattle.std.specs.Io.KnownBytes.{append_known}
 use Rattle.psg_keys.specs.Reading.{HasRead, Spelled, Waiting, at_first}
 use Rattle.psg_world.specs.Pieces.{IsPieceOf}
@@ -92,17 +93,35 @@ read_so s given piece made strokes reader input gives looked more reads same = r
 
 -- ---- what is written of a piece where that is not all
 
-module _ (p : Prompted) (strokes : List Spelled) (a b : Option (List ℕ)) (text bytes : List ℕ) (same : text ≡ bytes) where
-  pub cut_memory : IsToldOfFirst p strokes [] bytes → b ≡ append_known a text → Writes a b (IsCut p strokes endings.Memory)
-  cut_memory told written = (bytes, no_memory told, written ∙ ap (append_known a) same)
+module _ (p : Prompted) (strokes : List Spelled) (a b : Option (List ℕ)) (text first bytes : List ℕ) (same : text ≡ bytes) (none : first ≡ []) where
+  none_first : IsToldOfFirst p strokes first bytes → IsToldOfFirst p strokes [] bytes
+  none_first told = subst (λ (x : List ℕ). IsToldOfFirst p strokes x bytes) none told
 
-  pub cut_writing : (ending : Ending) → IsOfWriting ending → IsAnswer p strokes bytes → TakesFront a text b
+  pub cut_memory : IsToldOfFirst p strokes first bytes → b ≡ append_known a text
+      → Writes a b (IsCut p strokes endings.Memory)
+  cut_memory told written = (bytes, no_memory (none_first told), written ∙ ap (append_known a) same)
+
+  cut_writing : (ending : Ending) → IsOfWriting ending → IsAnswer p strokes bytes → TakesFront a text b
       → Writes a b (IsCut p strokes ending)
   cut_writing ending fault whole front = (
     take front.0 bytes,
     not_written fault whole front.0 (subst (λ (x : List ℕ). front.0 < length x) same front.1),
     front.2 ∙ ap (λ (x : List ℕ). append_known a (take front.0 x)) same,
   )
+
+  is_answer : (r : Result (Unit {0}) AllocError) → OnOk r (bytes ≡ first ++ answer p strokes)
+      → OnErr r (IsToldOfFirst p strokes first bytes) → IsAnswer p strokes bytes
+  is_answer (Ok u) told memory = inl (told ∙ ap (λ x. x ++ answer p strokes) none)
+  is_answer (Err e) told memory = inr (none_first memory)
+
+  pub cut_put : (r : Result (Unit {0}) AllocError) → OnOk r (bytes ≡ first ++ answer p strokes)
+      → OnErr r (IsToldOfFirst p strokes first bytes) → (ending : Ending) → IsOfWriting ending → TakesFront a text b
+      → Writes a b (IsCut p strokes ending)
+  cut_put r told memory ending fault front = cut_writing ending fault (is_answer r told memory) front
+
+  pub answer_so : bytes ≡ first ++ answer p strokes → b ≡ append_known a text → b ≡ append_known a (answer p strokes)
+  answer_so told written =
+      written ∙ ap (append_known a) (same ∙ told ∙ ap (λ x. x ++ answer p strokes) none)
 
 -- ---- a whole run
 

@@ -1,5 +1,5 @@
 //! A run of a prompt: from pieces of an input to the lines that are handed on.
-ghost use Rattle.std.specs.Prelude.{◌≡◌, ◌++◌, IfErr, IfOk, OnErr, OnOk, [], false, true, string_bytes};
+ghost use Rattle.std.specs.Prelude.{◌≡◌, ◌++◌, IfErr, OnErr, OnOk, [], false, true, string_bytes};
 ghost use Rattle.std.specs.Io.KnownBytes.{append_known};
 ghost use Rattle.psg_keys.specs.Reading.{at_first};
 ghost use Rattle.psg_prompt.specs.Prompts.{IsToldOfFirst, after_keys};
@@ -117,10 +117,11 @@ fn tell(
     strokes: &[Stroke],
     text: &mut String,
 ) -> Result<(), AllocError>
-    requires { string_bytes text.old ≡ [] }
     ensures pressed { OnOk result (prompt.new ≡ after_keys prompt.old strokes.now) }
-    ensures told { OnOk result (string_bytes text.new ≡ running.answer prompt.old strokes.now) }
-    ensures memory { OnErr result (IsToldOfFirst prompt.old strokes.now [] (string_bytes text.new)) }
+    ensures told { OnOk result (string_bytes text.new
+        ≡ string_bytes text.old ++ running.answer prompt.old strokes.now) }
+    ensures memory { OnErr result (IsToldOfFirst prompt.old strokes.now (string_bytes text.old)
+        (string_bytes text.new)) }
 {
     prompt.press_all(alloc, strokes, text)?;
     prompt.push_end(alloc, text)?;
