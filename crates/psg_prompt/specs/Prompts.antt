@@ -95,10 +95,13 @@ waiting = 46 ∷ 10 ∷ []
 abbrev pub drawn_row : Prompted → List ℕ
 drawn_row p = drawing (row p.cols p.lines.line)
 
--- a second Tab lists the words, where the first one typed nothing
+-- a second Tab lists the words, where the first one typed nothing, and this one types nothing
+abbrev pub lists : Prompted → Bool
+lists p = p.tabbed && (length (completion p.words p.lines.line.before) == 0)
+
 abbrev pub listed_words : Prompted → List ℕ
 listed_words p =
-    if p.tabbed && (length (completion p.words p.lines.line.before) == 0)
+    if lists p
     then drawn_row p ++ leaving ++ drawing (encoded (listing p.words p.lines.line.before)) ++ leaving else []
 
 abbrev pub told : Prompted → Act → List ℕ

@@ -118,10 +118,13 @@ fn rest_after<'a>(typed: &[char], word: &'a [char]) -> Option<&'a [char]>
 {
     let mut rest = word;
     for place in 0..typed.len() {
-        match rest.split_first() {
-            Some((first, more)) if *first == typed[place] => rest = more,
-            _ => return None,
+        let Some((first, more)) = rest.split_first() else {
+            return None;
+        };
+        if *first != typed[place] {
+            return None;
         }
+        rest = more;
     }
     Some(rest)
 }
@@ -224,9 +227,12 @@ fn push_if(typed: &[char], word: &[char], out: &mut String) -> Result<(), AllocE
     ensures { OnOk result (string_bytes out.new
         ≡ string_bytes out.old ++ encoded (completing.listed_if word.now (rest_after typed.now word.now))) }
 {
-    if rest_after(typed, word).is_some() {
-        push_drawn(word, out)?;
-        out.push_str("  ")?;
+    match rest_after(typed, word) {
+        Some(_) => {
+            push_drawn(word, out)?;
+            out.push_str("  ")?;
+            Ok(())
+        }
+        None => Ok(()),
     }
-    Ok(())
 }

@@ -1,5 +1,5 @@
 //! A prompt, and what keys make of it.
-ghost use Rattle.std.specs.Prelude.{◌≡◌, ◌++◌, ◌==◌, false, IfOk, OnErr, OnOk, encode_utf8_all, length, reverse};
+ghost use Rattle.std.specs.Prelude.{◌≡◌, ◌++◌, ◌==◌, ◌&&◌, false, IfOk, OnErr, OnOk, encode_utf8_all, length, reverse};
 ghost use Rattle.std.specs.Prelude.{string_bytes, if◌then◌else◌};
 ghost use Rattle.psg_keys.specs.Lines.{at_first_line, kept_after};
 ghost use Rattle.psg_keys.specs.declared.key.Key.TheVariants as keys;
@@ -178,15 +178,23 @@ impl Prompt {
     fn push_list(&self, alloc: Global, out: &mut String) -> Result<(), AllocError>
         ensures { OnOk result (string_bytes out.new ≡ string_bytes out.old ++ listed_words self.now) }
     {
-        let before = self.before();
-        let text = self.words.completion(alloc, before)?;
-        if self.tabbed && text.len() == 0 {
-            self.push_left(alloc, out)?;
-            out.push_str(">")?;
-            self.words.push_listing(alloc, before, out)?;
-            out.push_str("\n-\n")?;
+        let lists = self.lists(alloc)?;
+        if !lists {
+            return Ok(());
         }
+        self.push_left(alloc, out)?;
+        out.push_str(">")?;
+        self.words.push_listing(alloc, self.before(), out)?;
+        out.push_str("\n-\n")?;
         Ok(())
+    }
+
+    /// Says whether a Tab lists the words now.
+    fn lists(&self, alloc: Global) -> Result<bool, AllocError>
+        ensures { IfOk result (λ lists. lists ≡ prompts.lists self.now) }
+    {
+        let text = self.words.completion(alloc, self.before())?;
+        Ok(is_both(self.tabbed, text.len() == 0))
     }
 
     /// Returns the characters before the cursor.
@@ -260,6 +268,12 @@ impl Prompt {
         self.tabbed = text.len() == 0;
         Ok(())
     }
+}
+
+fn is_both(one: bool, other: bool) -> bool
+    ensures { result ≡ (one && other) }
+{
+    one && other
 }
 
 /// Writes the characters.
