@@ -1,15 +1,13 @@
 -- What is told of keys, one after the other.
-use Rattle.std.proofs.Common.{◌≡◌, ℕ, Bool, true, false, suc, ◌+◌, ◌-◌, ◌<◌, ◌≤◌, List, [], ◌∷◌, ◌++◌, length, take, get_or, refl, sym, ap, ◌∙◌, append-nil, append_assoc, arith, inl, inr, rules}
+use Rattle.std.proofs.Common.{◌≡◌, ℕ, Bool, true, false, suc, ◌+◌, ◌-◌, ◌<◌, ◌≤◌, List, [], ◌∷◌, ◌++◌, length, take, get_or, refl, sym, ap, ◌∙◌, append-nil, append_assoc, arith, inl, inr}
 use Rattle.std.proofs.lemmas.List.{take_more, take_all}
 use Rattle.psg_keys.specs.Lines.{TypedLines}
 use Rattle.psg_keys.specs.Reading.{Spelled}
 use Rattle.psg_keys.specs.declared.key.Key.{Key}
 use Rattle.psg_prompt.specs.declared.act.Act.{Act}
 use Rattle.psg_prompt.specs.Acts.{act_of}
-use Rattle.psg_prompt.specs.Completing.{listing}
-use Rattle.psg_prompt.specs.Rows.{encoded}
 use Rattle.std.specs.Prelude.{if◌then◌else◌}
-use Rattle.psg_prompt.specs.Prompts.{Prompted, changed, told, lists, listed_words, drawn_row, leaving, drawing, pressed, pressed_times, after_key, after_keys, told_key, told_keys, IsToldOrNot, IsToldOfFirst}
+use Rattle.psg_prompt.specs.Prompts.{Prompted, changed, told, lists, listed_words, words_listed, pressed, pressed_times, after_key, after_keys, told_key, told_keys, IsToldOrNot, IsToldOfFirst}
 
 pub after_last : (p : Prompted) (front : List Spelled) (s : Spelled) → after_keys p (front ++ s ∷ []) ≡ after_key (after_keys p front) s.key
 after_last p [] s = refl
@@ -93,19 +91,11 @@ told_so p key act before text after h is e f =
 
 -- ---- the words that a second Tab lists
 
-pub listed_so : (p : Prompted) (now : Bool) (first a b c d : List ℕ) → now ≡ lists p → now ≡ true
-    → a ≡ first ++ drawn_row p ++ leaving → b ≡ a ++ 62 ∷ [] → c ≡ b ++ encoded (listing p.words p.lines.line.before)
-    → d ≡ c ++ 10 ∷ 45 ∷ 10 ∷ [] → d ≡ first ++ listed_words p
-listed_so p now first a b c d is so e f g h =
-    let words : List ℕ = encoded (listing p.words p.lines.line.before) in
-    h ∙ ap (λ x. x ++ 10 ∷ 45 ∷ 10 ∷ []) (g ∙ ap (λ x. x ++ words) (f ∙ ap (λ x. x ++ 62 ∷ []) e))
-    ∙ joined first (drawn_row p) words
-    ∙ ap (λ (y : Bool). first ++ (if y then drawn_row p ++ leaving ++ drawing words ++ leaving else [])) (sym so ∙ is)
-  where
-    joined : (x y w : List ℕ) → (((x ++ y ++ leaving) ++ 62 ∷ []) ++ w) ++ 10 ∷ 45 ∷ 10 ∷ [] ≡ x ++ (y ++ leaving ++ drawing w ++ leaving)
-    joined x y w = search rules
+pub listed_so : (p : Prompted) (now : Bool) (first after : List ℕ) → now ≡ lists p → now ≡ true
+    → after ≡ first ++ words_listed p → after ≡ first ++ listed_words p
+listed_so p now first after is so e =
+    e ∙ ap (λ (y : Bool). first ++ (if y then words_listed p else [])) (sym so ∙ is)
 
 pub not_listed : (p : Prompted) (now : Bool) (first : List ℕ) → now ≡ lists p → now ≡ false → first ≡ first ++ listed_words p
 not_listed p now first is so =
-    sym (append-nil first)
-    ∙ ap (λ (y : Bool). first ++ (if y then drawn_row p ++ leaving ++ drawing (encoded (listing p.words p.lines.line.before)) ++ leaving else [])) (sym so ∙ is)
+    sym (append-nil first) ∙ ap (λ (y : Bool). first ++ (if y then words_listed p else [])) (sym so ∙ is)

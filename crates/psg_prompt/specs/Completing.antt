@@ -2,6 +2,7 @@
 use Rattle.std.specs.Prelude.{ℕ, ◌+◌, ◌-◌, ◌==◌, not, Bool, true, false, List, [], ◌∷◌, ◌++◌, Option, Some, None}
 use Rattle.std.specs.Prelude.{length, take, drop, reverse, if◌then◌else◌}
 use Rattle.std.specs.List.{prefix_len}
+use Rattle.psg_prompt.specs.Rows.{encoded}
 
 -- the words that may begin a line, and those that may follow
 pub record WordLists : Type 0 where
@@ -62,10 +63,10 @@ ending_of (Some found) = found.text ++ (if found.alone then 32 ∷ [] else [])
 abbrev pub completion : WordLists → List ℕ → List ℕ
 completion words before = ending_of (found_from None (word_of before) (words_for words before))
 
--- the words that begin so, each with two spaces after it
+-- the bytes of the words that begin so, each with two spaces after it
 abbrev pub listed_if : List ℕ → Option (List ℕ) → List ℕ
 listed_if word None = []
-listed_if word (Some rest) = word ++ 32 ∷ 32 ∷ []
+listed_if word (Some rest) = encoded word ++ 32 ∷ 32 ∷ []
 
 abbrev pub listed : List ℕ → List (List ℕ) → List ℕ
 listed typed [] = []

@@ -9,7 +9,7 @@ use Rattle.psg_prompt.specs.declared.act.Act.{Act}
 use Rattle.psg_prompt.specs.declared.act.Act.TheVariants as acts
 use Rattle.psg_prompt.specs.Acts.{act_of, rub_from}
 use Rattle.psg_prompt.specs.Completing.{WordLists, completion, listing}
-use Rattle.psg_prompt.specs.Rows.{row, encoded, cleared}
+use Rattle.psg_prompt.specs.Rows.{row, cleared}
 
 -- A prompt: the words that it completes, the lines, how many columns the terminal has, whether the last key was a Tab
 -- that typed nothing, and whether it is at its end.
@@ -99,10 +99,11 @@ drawn_row p = drawing (row p.cols p.lines.line)
 abbrev pub lists : Prompted → Bool
 lists p = p.tabbed && (length (completion p.words p.lines.line.before) == 0)
 
+abbrev pub words_listed : Prompted → List ℕ
+words_listed p = drawn_row p ++ leaving ++ drawing (listing p.words p.lines.line.before) ++ leaving
+
 abbrev pub listed_words : Prompted → List ℕ
-listed_words p =
-    if lists p
-    then drawn_row p ++ leaving ++ drawing (encoded (listing p.words p.lines.line.before)) ++ leaving else []
+listed_words p = if lists p then words_listed p else []
 
 abbrev pub told : Prompted → Act → List ℕ
 told p acts.Finish = drawn_row p ++ handing (p.lines.line.before ++ p.lines.line.after)

@@ -1,5 +1,5 @@
 //! What Tab makes of the word before the cursor.
-ghost use Rattle.std.specs.Prelude.{◌≡◌, ◌++◌, ◌≤◌, IfOk, None, OnOk, Some, drop, encode_utf8_all, length, map};
+ghost use Rattle.std.specs.Prelude.{◌≡◌, ◌++◌, ◌∷◌, [], ◌≤◌, IfOk, None, OnOk, Some, drop, encode_utf8_all, length, map};
 ghost use Rattle.std.specs.Prelude.{reverse, string_bytes, take};
 ghost use Rattle.std.specs.List.{prefix_len};
 ghost use Rattle.std.specs.Option.{option_map};
@@ -57,7 +57,7 @@ impl Words {
         before: &[char],
         out: &mut String,
     ) -> Result<(), AllocError>
-        ensures { OnOk result (string_bytes out.new ≡ string_bytes out.old ++ encoded (listing self.now before.now)) }
+        ensures { OnOk result (string_bytes out.new ≡ string_bytes out.old ++ listing self.now before.now) }
     {
         let start = word_start(alloc, before)?;
         push_listed(&before[start..], self.words_for(before, start), out)
@@ -214,7 +214,7 @@ fn ending_of(alloc: Global, found: Option<Found>) -> Result<Vec<char>, AllocErro
 /// Writes the words that begin with the characters that are typed.
 fn push_listed(typed: &[char], words: &[Vec<char>], out: &mut String) -> Result<(), AllocError>
     ensures { OnOk result (string_bytes out.new
-        ≡ string_bytes out.old ++ encoded (listed typed.now (map (λ word. word.items) words.now))) }
+        ≡ string_bytes out.old ++ listed typed.now (map (λ word. word.items) words.now)) }
 {
     for word in words {
         push_if(typed, word.as_slice(), out)?;
@@ -225,14 +225,19 @@ fn push_listed(typed: &[char], words: &[Vec<char>], out: &mut String) -> Result<
 /// Writes the word, if it begins with the characters that are typed.
 fn push_if(typed: &[char], word: &[char], out: &mut String) -> Result<(), AllocError>
     ensures { OnOk result (string_bytes out.new
-        ≡ string_bytes out.old ++ encoded (completing.listed_if word.now (rest_after typed.now word.now))) }
+        ≡ string_bytes out.old ++ completing.listed_if word.now (rest_after typed.now word.now)) }
 {
     match rest_after(typed, word) {
-        Some(_) => {
-            push_drawn(word, out)?;
-            out.push_str("  ")?;
-            Ok(())
-        }
+        Some(_) => push_word(word, out),
         None => Ok(()),
     }
+}
+
+/// Writes the word, and two spaces.
+fn push_word(word: &[char], out: &mut String) -> Result<(), AllocError>
+    ensures { OnOk result (string_bytes out.new ≡ string_bytes out.old ++ (encoded word.now ++ 32 ∷ 32 ∷ [])) }
+{
+    push_drawn(word, out)?;
+    out.push_str("  ")?;
+    Ok(())
 }

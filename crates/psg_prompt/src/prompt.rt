@@ -175,13 +175,22 @@ impl Prompt {
     }
 
     /// Writes the words that are possible, where the last key was a Tab that typed nothing, and this one types nothing.
+    #[tactic(auto, using(crate::proofs::PromptLaws::listed_so, crate::proofs::PromptLaws::not_listed))]
     fn push_list(&self, alloc: Global, out: &mut String) -> Result<(), AllocError>
         ensures { OnOk result (string_bytes out.new ≡ string_bytes out.old ++ listed_words self.now) }
     {
         let lists = self.lists(alloc)?;
-        if !lists {
+        if lists {
+            self.push_words(alloc, out)?;
             return Ok(());
         }
+        Ok(())
+    }
+
+    /// Writes the words that are possible, below the row.
+    fn push_words(&self, alloc: Global, out: &mut String) -> Result<(), AllocError>
+        ensures { OnOk result (string_bytes out.new ≡ string_bytes out.old ++ prompts.words_listed self.now) }
+    {
         self.push_left(alloc, out)?;
         out.push_str(">")?;
         self.words.push_listing(alloc, self.before(), out)?;

@@ -10,7 +10,7 @@ returns-then-is_ended-clause-told c = ended_told _ _ _ (sym c.is_ended.ensures �
 
 pub returns-in_err-change-clause-memory : goal.returns-in_err-change-clause-memory
 returns-in_err-change-clause-memory c =
-    inr (told_so _ _ _ _ _ _ (sym c.is_ended.ensures ∙ c.if-is_ended.false) (c.act_of-act.ensures ∙ ? )
+    inr (told_so _ _ _ _ _ _ (sym c.is_ended.ensures ∙ c.if-is_ended.false) (?)
     c.in_ok-text.ensures c.in_ok-push_str.ensures)
 
 pub returns-clause-pressed : goal.returns-clause-pressed
