@@ -178,11 +178,7 @@ fn narrowed(alloc: Global, old: Option<Found>, rest: &[char]) -> Result<Option<F
 }
 
 /// Returns what is found among the words for the characters that are typed.
-fn found_in(
-    alloc: Global,
-    typed: &[char],
-    words: &[Vec<char>],
-) -> Result<Option<Found>, AllocError>
+fn found_in(alloc: Global, typed: &[char], words: &[Vec<char>]) -> Result<Option<Found>, AllocError>
     ensures { IfOk result (λ found. found ≡ found_from None typed.now (map (λ word. word.items) words.now)) }
 {
     let mut found = None;

@@ -110,12 +110,7 @@ impl Prompt {
     }
 
     /// Does what the key does, and adds what is told of it.
-    fn press(
-        &mut self,
-        alloc: Global,
-        stroke: &Stroke,
-        out: &mut String,
-    ) -> Result<(), AllocError>
+    fn press(&mut self, alloc: Global, stroke: &Stroke, out: &mut String) -> Result<(), AllocError>
         ensures pressed { OnOk result (self.new ≡ after_key self.old stroke.now.key) }
         ensures told { OnOk result (string_bytes out.new
             ≡ string_bytes out.old ++ told_key self.old stroke.now.key) }
@@ -251,7 +246,8 @@ impl Prompt {
     /// Removes what is after the cursor.
     fn cut(&mut self, alloc: Global) -> Result<(), AllocError>
         ensures { OnOk result (self.new ≡ record self.old {
-            lines = pressed_times (length self.old.lines.line.after) keys.Delete self.old.lines }) }
+          lines = pressed_times (length self.old.lines.line.after) keys.Delete self.old.lines;
+        }) }
     {
         let line = self.lines.line();
         let count = line.chars().len() - line.place();
@@ -261,7 +257,8 @@ impl Prompt {
     /// Removes the last word before the cursor.
     fn rub(&mut self, alloc: Global) -> Result<(), AllocError>
         ensures { OnOk result (self.new ≡ record self.old {
-            lines = pressed_times (rub_from false (reverse self.old.lines.line.before)) keys.Backspace self.old.lines }) }
+          lines = pressed_times (rub_from false (reverse self.old.lines.line.before)) keys.Backspace self.old.lines;
+        }) }
     {
         let back = reversed(alloc, self.before())?;
         let count = rub_count(back.as_slice());
