@@ -6,7 +6,7 @@ use Rattle.psg_keys.specs.Reading.{Spelled}
 use Rattle.psg_keys.specs.declared.key.Key.{Key}
 use Rattle.psg_prompt.specs.declared.act.Act.{Act}
 use Rattle.psg_prompt.specs.Acts.{act_of}
-use Rattle.std.specs.Prelude.{if◌then◌else◌}
+use Rattle.std.specs.Prelude.{Result, Ok, Err, OnErr, if◌then◌else◌}
 use Rattle.psg_prompt.specs.Prompts.{Prompted, changed, told, lists, listed_words, words_listed, pressed, pressed_times, after_key, after_keys, told_key, told_keys, IsToldOrNot, IsToldOfFirst}
 
 pub after_last : (p : Prompted) (front : List Spelled) (s : Spelled) → after_keys p (front ++ s ∷ []) ≡ after_key (after_keys p front) s.key
@@ -99,3 +99,8 @@ listed_so p now first after is so e =
 pub not_listed : (p : Prompted) (now : Bool) (first : List ℕ) → now ≡ lists p → now ≡ false → first ≡ first ++ listed_words p
 not_listed p now first is so =
     sym (append-nil first) ∙ ap (λ (y : Bool). first ++ (if y then words_listed p else [])) (sym so ∙ is)
+
+-- what holds anyway holds where there is an error
+pub on_err : {X E : Type 0} (r : Result X E) (P : Type 0) → P → OnErr r P
+on_err (Ok x) P p = tt
+on_err (Err e) P p = p

@@ -1,4 +1,4 @@
-use Rattle.psg_prompt.proofs.PromptLaws.{pressed_end, pressed_more, told_end_of, told_first, told_more}
+use Rattle.psg_prompt.proofs.PromptLaws.{on_err, pressed_end, pressed_more, told_end_of, told_first, told_more}
 use Rattle.psg_prompt.proofs.prompt.Prompt.press_all.Goals as goal
 
 pub loop-number-preserved : goal.loop-number-preserved
@@ -11,8 +11,8 @@ loop-number-preserved c = record {
 
 pub returns-in_err-press-clause-memory : goal.returns-in_err-press-clause-memory
 returns-in_err-press-clause-memory c =
-    told_first _ _ c.press.new.self c.args.strokes.now c.loop-number.number c.index-strokes-number.result c.loop-number-test.true
-    c.index-strokes-number.is c.loop-number.invariant.pressed _ _ _ c.loop-number.invariant.told c.in_err-press.ensures.memory
+    on_err _ _ (told_first _ _ c.press.new.self c.args.strokes.now c.loop-number.number c.index-strokes-number.result c.loop-number-test.true
+    c.index-strokes-number.is c.loop-number.invariant.pressed _ _ _ c.loop-number.invariant.told c.in_err-press.ensures.memory)
 
 pub returns-clause-pressed : goal.returns-clause-pressed
 returns-clause-pressed c =
