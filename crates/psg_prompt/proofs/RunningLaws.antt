@@ -8,9 +8,9 @@ use Rattle.psg_world.specs.Pieces.{IsPieceOf}
 use Rattle.psg_world.specs.Sinks.{TakesFront}
 use Rattle.psg_prompt.specs.declared.running.Ending.{Ending}
 use Rattle.psg_prompt.specs.declared.running.Ending.TheVariants as endings
-use Rattle.psg_prompt.specs.Prompts.{Prompted, after_keys, told_end, told_keys, IsToldOfFirst}
+use Rattle.psg_prompt.specs.Prompts.{Prompted, after_keys, told_end, IsToldOfFirst}
 use Rattle.psg_prompt.specs.Running.{HasRun, IsAnswer, IsCut, IsOfReading, IsOfWriting, IsRead, IsTurn, Runs, Scene, Writes, answer, scene}
-use Rattle.psg_prompt.specs.Running.{by_count, by_cut, by_input, by_key, by_read, is_run, no_memory, not_begun, not_drawn, not_written, turn}
+use Rattle.psg_prompt.specs.Running.{by_count, by_cut, by_input, by_key, by_read, is_run, no_memory, not_begun, not_written, turn}
 
 twice : (a : Option (List ℕ)) (x y : List ℕ) → append_known (append_known a x) y ≡ append_known a (x ++ y)
 twice None x y = refl

@@ -1,5 +1,5 @@
 -- What a run of a prompt writes.
-use Rattle.std.specs.Prelude.{ℕ, ◌≡◌, ◌+◌, ◌-◌, ◌^◌, ◌<◌, ◌≤◌, ◌⊎◌, ◌++◌, Bool, true, false, List, [], Option, length, take}
+use Rattle.std.specs.Prelude.{ℕ, ◌≡◌, ◌+◌, ◌-◌, ◌^◌, ◌<◌, ◌≤◌, ◌⊎◌, ◌++◌, true, false, List, [], Option, length, take}
 use Rattle.std.specs.Io.KnownBytes.{append_known}
 use Rattle.psg_keys.specs.Reading.{HasRead, Spelled, Waiting}
 use Rattle.psg_world.specs.Pieces.{IsPieceOf}
