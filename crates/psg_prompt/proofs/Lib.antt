@@ -1,0 +1,3 @@
+pub mod CompletingLaws
+pub mod PromptLaws
+pub mod RunningLaws
