@@ -10,6 +10,9 @@ PARTS = re.compile(r'"(?:[^"\\]|\\.)*"|[?$]?[A-Za-z0-9_]+|[][:=(),|@]')
 MARKS = {"space", "tight", "line", "in", "out"}
 FORMS = {"prefix", "postfix", "infix", "infixl", "infixr"}
 
+# the characters of which runs are symbols
+SYMBOLS = "+*/%<>=!&|^~:.@#$-"
+
 
 class Item:
     """An item of an operator: its kind is word, slot, refers, declares, number or text."""
@@ -147,6 +150,13 @@ class Definition:
             if read and not line.startswith("#"):
                 words.next()
                 read(words)
+
+    def without_comments(self, text):
+        """The text with a space for each byte of a comment, so that each other byte keeps its place."""
+        if not self.comment:
+            return text
+        parts = re.compile('"(?:[^"\\\\\n]|\\\\.)*"|(?<![%s])%s[^\n]*' % (re.escape(SYMBOLS), re.escape(self.comment)))
+        return parts.sub(lambda it: it[0] if it[0][0] == '"' else " " * len(it[0].encode()), text)
 
     def read_comment(self, words):
         self.comment = unquoted(words.next())

@@ -35,6 +35,7 @@ local function run()
   local file = vim.fn.tempname() .. ".mini"
   vim.fn.writefile({ "x := 1;", "𝒳 :=  true;", "x := 𝒳" }, file)
   vim.cmd("edit " .. file)
+  want("the menu's key", "v:lua.vim.lsp.omnifunc", function() return vim.bo.omnifunc end)
   -- the column of the last line is that of a text in which a character has two units
   want("diagnostics", {
     "0:0-0:1 2 x is not declared",
@@ -54,7 +55,9 @@ local function run()
     local told = asked("textDocument/hover", 1, 2)
     return told and told.contents.value
   end)
-  want("completion", { "begin ... do ... end", "while ?Exp do ... od", "skip" }, function()
+  -- no name begins with the word: all that fit an assignment, and none that fits a call yet
+  local entries = { "begin ... do ... end", "x := ?Exp", "call name(...)", "while ?Exp do ... od", "skip" }
+  want("completion", entries, function()
     local told = asked("textDocument/completion", 1, 4)
     return told and vim.tbl_map(function(item) return item.label end, told.items)
   end)

@@ -1,6 +1,7 @@
 -- What may be put in place of a word, by the program that was read with a filling.
 use Rattle.std.proofs.Common.{◌≡◌, ◌+◌, ℕ, List, Some, None, refl, sym, ap, subst, ◌∙◌}
 use Rattle.psg_cache.specs.Annotated.{tree_in}
+use Rattle.psg_terms.specs.Names.{Name}
 use Rattle.psg_grammar.specs.declared.types.Definition.{Definition}
 use Rattle.psg_grammar.specs.declared.types.Kind.{Kind}
 use Rattle.psg_grammar.specs.Fragments.{Fragment}
@@ -18,6 +19,7 @@ use Rattle.psg_pointing.specs.Judging.{IsJudged, IsKnownOf, IsTooMuch, judged, l
 use Rattle.psg_completing.specs.Around.{IsWordAround}
 use Rattle.psg_pointing.specs.Hovering.{mark_size, own_byte, spot_at}
 use Rattle.psg_completing.specs.Offering.{AreOffersIn, IsCompleted, IsCompletedAt, IsCompletion, IsEmpty, IsOfferedAt, inside, none_fits, offers, prefix_of, put_before, put_behind, too_much}
+use Rattle.psg_completing.specs.Naming.{IsSampleName}
 use Rattle.psg_completing.specs.Samples.{IsLeast}
 use Rattle.psg_completing.proofs.Fits.{placed_by}
 
@@ -66,23 +68,26 @@ module _ (def : Definition) (kind : Kind) (own : List ℕ) (w : Word) (from to :
         incomplete = o.more;
       })
   completed_offers fit is first j known same o there before behind b h =
-      let (least, level, (told, is_told, are)) = there in
+      let (least, level, sample, named, (told, is_told, are)) = there in
       record {
         from_is = refl;
         to_is = refl;
-        completed = offers fit.filling j fit.path least told first known (placed fit is j same) is_told level are b h;
+        completed = offers fit.filling j fit.path least sample told first known (placed fit is j same) is_told level named are b h;
       }
 
 -- what is offered at a path, by what is known of the same program
-pub offers_for : (def d e : Definition) (kind k : Kind) (tree f g : Fragment) (path : Path) (least : ℕ) (prefix : List ℕ)
-    (o : Offers) → d ≡ def → e ≡ def → k ≡ kind → f ≡ tree → g ≡ tree → IsLeast d f path least
-    → IsOfferedAt e k g (spot_at path) least prefix o → AreOffersIn def kind tree path prefix o
-offers_for def d e kind k tree f g path least prefix o a b c x y level is = (
+pub offers_for : (def d e : Definition) (kind k : Kind) (tree f g : Fragment) (path : Path) (least : ℕ) (sample : Name)
+    (prefix : List ℕ) (o : Offers) → d ≡ def → e ≡ def → k ≡ kind → f ≡ tree → g ≡ tree → IsLeast d f path least
+    → IsSampleName def sample → IsOfferedAt e k g (spot_at path) least sample prefix o
+    → AreOffersIn def kind tree path prefix o
+offers_for def d e kind k tree f g path least sample prefix o a b c x y level named is = (
   least,
   subst (λ t. IsLeast def t path least) x (subst (λ n. IsLeast n f path least) a level),
-  subst (λ t. IsOfferedAt def kind t (spot_at path) least prefix o) y
-      (subst (λ n. IsOfferedAt def n g (spot_at path) least prefix o) c
-      (subst (λ n. IsOfferedAt n k g (spot_at path) least prefix o) b is)),
+  sample,
+  named,
+  subst (λ t. IsOfferedAt def kind t (spot_at path) least sample prefix o) y
+      (subst (λ n. IsOfferedAt def n g (spot_at path) least sample prefix o) c
+      (subst (λ n. IsOfferedAt n k g (spot_at path) least sample prefix o) b is)),
 )
 
 -- the text that a word is completed in

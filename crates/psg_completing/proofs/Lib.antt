@@ -8,3 +8,5 @@ pub mod Pieces
 pub mod Listing
 pub mod Slots
 pub mod Levels
+pub mod SampleNames
+pub mod EachLaw

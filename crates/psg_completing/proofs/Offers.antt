@@ -1,6 +1,7 @@
 -- What is offered, one operator after the other.
-use Rattle.std.proofs.Common.{◌≡◌, ◌<◌, ◌≤◌, ◌+◌, ◌||◌, Bool, true, false, ℕ, List, [], ◌∷◌, ◌++◌, drop, length, slice_get, Option, Some, None, Result, Ok, Err, refl, sym, ap, subst, ◌∙◌}
-use Rattle.std.specs.Prelude.{String, Vec, codes, get_or, map, nat_lt, option_map, string_bytes, take}
+use Rattle.std.proofs.Common.{◌≡◌, ◌<◌, ◌≤◌, ◌+◌, ◌==◌, ◌||◌, Bool, true, false, ℕ, List, [], ◌∷◌, ◌++◌, drop, length, slice_get, Option, Some, None, Result, Ok, Err, refl, sym, ap, subst, ◌∙◌, arith}
+use Rattle.std.specs.Prelude.{String, Vec, get_or, map, nat_lt, option_map, string_bytes, take}
+use Rattle.std.proofs.lemmas.Bool.{eqb-true, true≢false}
 use Rattle.std.proofs.lemmas.Option.{none-some, same_Some}
 use Rattle.std.specs.declared.alloc.Global.{Global}
 use Rattle.std.proofs.lemmas.List.{append-nil, append_assoc, drop_all}
@@ -19,7 +20,9 @@ use Rattle.psg_grammar.specs.declared.types.Operator.{Operator}
 use Rattle.psg_grammar.specs.Kinds.{op_name_of}
 use Rattle.psg_keymap.specs.Leaves.{leaves_of}
 use Rattle.psg_asking.specs.Asked.{IsToldOf, Read, names_of}
-use Rattle.psg_completing.specs.Offering.{AreJoined, AreOffered, IsOffered, begun, by_itself, by_names, entries_with, most_names, no_more, one_more, one_name, unknown}
+use Rattle.psg_completing.specs.Offering.{AreJoined, AreOffered, IsOffered, begun, begun_or_all, by_itself, by_names}
+use Rattle.psg_completing.specs.Offering.{entries_with, most_names, no_more, one_more, one_name, or_those, unknown}
+use Rattle.psg_completing.specs.Offering.{written_names}
 
 -- ---- a row that is mapped, one after the other
 
@@ -54,9 +57,10 @@ or_assoc : (a b c : Bool) → ((a || b) || c) ≡ (a || (b || c))
 or_assoc true b c = refl
 or_assoc false b c = refl
 
-module _ (def : Definition) (kind : Kind) (tree : Fragment) (spot : Spot) (least : ℕ) (prefix : List ℕ) where
+module _ (def : Definition) (kind : Kind) (tree : Fragment) (spot : Spot) (least : ℕ) (sample : Name)
+    (prefix : List ℕ) where
   abbrev Offered : List Name → List Entry → Bool → Type 0
-  Offered ops entries more = AreOffered def kind tree spot least prefix ops entries more
+  Offered ops entries more = AreOffered def kind tree spot least sample prefix ops entries more
 
   -- whatever is offered of the rest is, after what is there, offered of all
   abbrev pub AreSoFar : List Name → List Name → Offers → Type 0
@@ -71,7 +75,7 @@ module _ (def : Definition) (kind : Kind) (tree : Fragment) (spot : Spot) (least
 
   pub offers_next : (all : List Name) (row : List (String Global)) (i : ℕ) (x : String Global) (name : Name)
       (old here new : Offers) → i < length row → x ≡ get_or row i x → name ≡ string_bytes x
-      → IsOffered def kind tree spot least prefix name here.entries.items here.more → AreJoined old here new
+      → IsOffered def kind tree spot least sample prefix name here.entries.items here.more → AreJoined old here new
       → AreSoFar all (map string_bytes (drop i row)) old → AreSoFar all (map string_bytes (drop (i + 1) row)) new
   offers_next all row i x name old here new lt is same one joined h entries more rest =
       subst (λ es. Offered all es (new.more || more)) (sym row_is)
@@ -115,6 +119,45 @@ told_some read answer e = ap (λ (r : Option Answer). lines_of (option_map read_
 pub told_nothing : (read : Option Answer) → read ≡ None → [] ≡ lines_of (option_map read_of read)
 told_nothing read e = ap (λ (r : Option Answer). lines_of (option_map read_of r)) (sym e)
 
+-- ---- names that are written
+
+-- each name begins with nothing
+begun_nothing : (names : List Name) → begun [] names ≡ names
+begun_nothing [] = refl
+begun_nothing (name ∷ names) = ap (λ l. name ∷ l) (begun_nothing names)
+
+others_if : (names others : List Name) → (length names == 0) ≡ true → or_those names others ≡ others
+others_if [] others e = refl
+others_if (name ∷ names) others e =
+    let none : length (name ∷ names) ≡ 0 = eqb-true (length (name ∷ names)) 0 e in absurd (omega (arith, none))
+
+those_if : (names others : List Name) → (length names == 0) ≡ false → or_those names others ≡ names
+those_if [] others e = absurd (true≢false e)
+those_if (name ∷ names) others e = refl
+
+-- what a test of a row says of the names that it has
+told_of : (names row : List Name) (none b : Bool) → row ≡ names → none ≡ (length row == 0) → none ≡ b
+    → (length names == 0) ≡ b
+told_of names row none b is n e = ap (λ l. length l == 0) (sym is) ∙ sym n ∙ e
+
+pub others_of : (names row others : List Name) (none : Bool) → row ≡ names → none ≡ (length row == 0) → none ≡ true
+    → others ≡ or_those names others
+others_of names row others none is n e = sym (others_if names others (told_of names row none true is n e))
+
+pub those_of : (names row others : List Name) (none : Bool) → row ≡ names → none ≡ (length row == 0) → none ≡ false
+    → names ≡ or_those names others
+those_of names row others none is n e = sym (those_if names others (told_of names row none false is n e))
+
+pub all_begun : (prefix : List ℕ) (names some row all : List Name) (none : Bool) → some ≡ begun prefix names
+    → row ≡ some → none ≡ (length row == 0) → none ≡ true → all ≡ begun [] names → all ≡ begun_or_all prefix names
+all_begun prefix names some row all none s is n e a =
+    a ∙ begun_nothing names ∙ others_of some row names none is n e ∙ ap (λ l. or_those l names) s
+
+pub some_begun : (prefix : List ℕ) (names some row : List Name) (none : Bool) → some ≡ begun prefix names
+    → row ≡ some → none ≡ (length row == 0) → none ≡ false → some ≡ begun_or_all prefix names
+some_begun prefix names some row none s is n e =
+    those_of some row names none is n e ∙ ap (λ l. or_those l names) s
+
 -- ---- an operator by its name
 
 -- the operator of the number has the name
@@ -128,51 +171,54 @@ pub own_name : (o : Option Operator) (op : Operator) (name : Name) → o ≡ Som
 own_name o op name is e =
     same_Some op.name name (sym (ap (option_map (λ (x : Operator). x.name)) is) ∙ e)
 
-module _ (def : Definition) (kind : Kind) (tree : Fragment) (spot : Spot) (least : ℕ) (prefix : List ℕ) where
+module _ (def : Definition) (kind : Kind) (tree : Fragment) (spot : Spot) (least : ℕ) (sample : Name)
+    (prefix : List ℕ) where
   pub by_names_of : (op : ℕ) (own name : Name) (told : Option Read) (names some : List Name) (entries : List Entry)
       (more : Bool) → op_name_of def op ≡ Some name → own ≡ name → one_name (leaves_of def name) ≡ true
-      → IsToldOf def kind tree spot (names_of name) (names_told tree) told → names ≡ begun prefix (lines_of told)
+      → IsToldOf def kind tree spot (names_of name) (names_told tree) told
+      → names ≡ written_names sample prefix (lines_of told)
       → some ≡ take most_names names → entries ≡ entries_with def least own op some
-      → more ≡ nat_lt most_names (length names) → IsOffered def kind tree spot least prefix name entries more
+      → more ≡ nat_lt most_names (length names) → IsOffered def kind tree spot least sample prefix name entries more
   by_names_of op own name told names some entries more is same one told_is n s e m =
-      subst (λ es. IsOffered def kind tree spot least prefix name es more) (sym entries_is)
-      (subst (λ b. IsOffered def kind tree spot least prefix name
-      (entries_with def least name op (take most_names (begun prefix (lines_of told)))) b) (sym more_is)
+      subst (λ es. IsOffered def kind tree spot least sample prefix name es more) (sym entries_is)
+      (subst (λ b. IsOffered def kind tree spot least sample prefix name
+      (entries_with def least name op (take most_names (written_names sample prefix (lines_of told)))) b) (sym more_is)
       (by_names op told is one told_is)) where
-        entries_is : entries ≡ entries_with def least name op (take most_names (begun prefix (lines_of told)))
+        entries_is : entries
+            ≡ entries_with def least name op (take most_names (written_names sample prefix (lines_of told)))
         entries_is =
             e ∙ ap (λ x. entries_with def least x op some) same
             ∙ ap (entries_with def least name op) (s ∙ ap (take most_names) n)
 
-        more_is : more ≡ nat_lt most_names (length (begun prefix (lines_of told)))
+        more_is : more ≡ nat_lt most_names (length (written_names sample prefix (lines_of told)))
         more_is = m ∙ ap (λ l. nat_lt most_names (length l)) n
 
   pub by_itself_of : (op : ℕ) (own name : Name) (entries : List Entry) → op_name_of def op ≡ Some name → own ≡ name
-      → one_name (leaves_of def name) ≡ false → entries ≡ entries_with def least own op (codes "name" ∷ [])
-      → IsOffered def kind tree spot least prefix name entries false
+      → one_name (leaves_of def name) ≡ false → entries ≡ entries_with def least own op (sample ∷ [])
+      → IsOffered def kind tree spot least sample prefix name entries false
   by_itself_of op own name entries is same one e =
-      subst (λ es. IsOffered def kind tree spot least prefix name es false)
-      (sym (e ∙ ap (λ x. entries_with def least x op (codes "name" ∷ [])) same)) (by_itself op is one)
+      subst (λ es. IsOffered def kind tree spot least sample prefix name es false)
+      (sym (e ∙ ap (λ x. entries_with def least x op (sample ∷ [])) same)) (by_itself op is one)
 
   pub unknown_of : (name : Name) (offers : Offers) → ((op : ℕ) → op_name_of def op ≡ Some name → ⊥)
       → offers.entries.items ≡ [] → offers.more ≡ false
-      → IsOffered def kind tree spot least prefix name offers.entries.items offers.more
+      → IsOffered def kind tree spot least sample prefix name offers.entries.items offers.more
   unknown_of name offers none e m =
-      subst (λ es. IsOffered def kind tree spot least prefix name es offers.more) (sym e)
-      (subst (λ b. IsOffered def kind tree spot least prefix name [] b) (sym m) (unknown none))
+      subst (λ es. IsOffered def kind tree spot least sample prefix name es offers.more) (sym e)
+      (subst (λ b. IsOffered def kind tree spot least sample prefix name [] b) (sym m) (unknown none))
 
   pub nothing_of : (offers : Offers) (ops : List Name) → [] ≡ ops → offers.entries.items ≡ [] → offers.more ≡ false
-      → AreOffered def kind tree spot least prefix ops offers.entries.items offers.more
+      → AreOffered def kind tree spot least sample prefix ops offers.entries.items offers.more
   nothing_of offers ops none e m =
-      subst (λ l. AreOffered def kind tree spot least prefix l offers.entries.items offers.more) none
-      (subst (λ es. AreOffered def kind tree spot least prefix [] es offers.more) (sym e)
-      (subst (λ b. AreOffered def kind tree spot least prefix [] [] b) (sym m) no_more))
+      subst (λ l. AreOffered def kind tree spot least sample prefix l offers.entries.items offers.more) none
+      (subst (λ es. AreOffered def kind tree spot least sample prefix [] es offers.more) (sym e)
+      (subst (λ b. AreOffered def kind tree spot least sample prefix [] [] b) (sym m) no_more))
 
   pub offered_for : (offers : Offers) (ops others : List Name) → ops ≡ others
-      → AreOffered def kind tree spot least prefix ops offers.entries.items offers.more
-      → AreOffered def kind tree spot least prefix others offers.entries.items offers.more
+      → AreOffered def kind tree spot least sample prefix ops offers.entries.items offers.more
+      → AreOffered def kind tree spot least sample prefix others offers.entries.items offers.more
   offered_for offers ops others same h =
-      subst (λ l. AreOffered def kind tree spot least prefix l offers.entries.items offers.more) same h
+      subst (λ l. AreOffered def kind tree spot least sample prefix l offers.entries.items offers.more) same h
 
 -- no operator of the definition has the name
 pub not_named : (def d : Definition) (name : Name) (found : Option ℕ) → d ≡ def

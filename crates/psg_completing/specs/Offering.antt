@@ -1,7 +1,7 @@
 -- What is offered at a byte of a text.
 use Rattle.std.specs.Prelude.{ℕ, zero, suc, ◌≡◌, ◌==◌, ◌+◌, ◌&&◌, ◌||◌, min, nat_lt}
 use Rattle.std.specs.Prelude.{Bool, true, false, cond, List, [], ◌∷◌}
-use Rattle.std.specs.Prelude.{◌++◌, length, take, map, codes, eqb, slice_get, slice_range, Option, Some, None}
+use Rattle.std.specs.Prelude.{◌++◌, length, take, map, eqb, slice_get, slice_range, Option, Some, None}
 use Rattle.std.specs.List.{filter, starts_with}
 use Rattle.psg_terms.specs.Names.{Name}
 use Rattle.psg_grammar.specs.declared.types.Definition.{Definition}
@@ -30,6 +30,7 @@ use Rattle.psg_completing.specs.Fillings.{Fits, HasPlaceholder, IsFirst, back, b
 use Rattle.psg_completing.specs.Fillings.{mark_byte}
 use Rattle.psg_pointing.specs.Hovering.{lines_of, mark_size, own_byte, spot_at}
 use Rattle.psg_pointing.specs.Judging.{IsJudged, IsTooMuch}
+use Rattle.psg_completing.specs.Naming.{IsSampleName}
 use Rattle.psg_completing.specs.Samples.{IsLeast, sample_text}
 
 -- how many entries an operator has at most
@@ -39,6 +40,19 @@ most_names = 100
 -- those of the names that begin so
 abbrev pub begun : List ℕ → List Name → List Name
 begun prefix names = filter (λ name. starts_with eqb name prefix) names
+
+-- those of a row, or the others where it has none
+abbrev pub or_those : List Name → List Name → List Name
+or_those [] others = others
+or_those (name ∷ names) others = name ∷ names
+
+-- those of the names that begin so, or all of them where none begins so
+abbrev pub begun_or_all : List ℕ → List Name → List Name
+begun_or_all prefix names = or_those (begun prefix names) names
+
+-- the names that are written: those, or the sample where there are none
+abbrev pub written_names : Name → List ℕ → List Name → List Name
+written_names sample prefix names = or_those (begun_or_all prefix names) (sample ∷ [])
 
 abbrev pub entry : Name → List ℕ → Entry
 entry op text = record { operator = op; text = text }
@@ -61,16 +75,19 @@ abbrev pub one_name : List Leaf → Bool
 one_name [] = false
 one_name (leaf ∷ more) = is_used leaf && (length more == 0)
 
-module _ (def : Definition) (kind : Kind) (tree : Fragment) (spot : Spot) (least : ℕ) (prefix : List ℕ) where
-  -- The entries of an operator. One that has a name that it uses, and nothing else that is typed, has an entry for each
-  -- name with which it fits that begins so, up to a hundred. Each other one has one entry.
+module _ (def : Definition) (kind : Kind) (tree : Fragment) (spot : Spot) (least : ℕ) (sample : Name)
+    (prefix : List ℕ) where
+  -- The entries of an operator. If a name that it uses is all that is typed, it has an entry for each name with which it
+  -- fits that begins so, or for each with which it fits if none begins so, at most a hundred; and one entry with the
+  -- sample if it fits with none. Each other operator has one entry, with the sample.
   pub data IsOffered (op : Name) : List Entry → Bool → Type 0 where
     by_names : (o : ℕ) (told : Option Read) → op_name_of def o ≡ Some op → one_name (leaves_of def op) ≡ true
         → IsToldOf def kind tree spot (names_of op) (names_told tree) told
-        → IsOffered op (entries_with def least op o (take most_names (begun prefix (lines_of told))))
-        (nat_lt most_names (length (begun prefix (lines_of told))))
+        → IsOffered op
+        (entries_with def least op o (take most_names (written_names sample prefix (lines_of told))))
+        (nat_lt most_names (length (written_names sample prefix (lines_of told))))
     by_itself : (o : ℕ) → op_name_of def o ≡ Some op → one_name (leaves_of def op) ≡ false
-        → IsOffered op (entries_with def least op o (codes "name" ∷ [])) false
+        → IsOffered op (entries_with def least op o (sample ∷ [])) false
     unknown : ((o : ℕ) → op_name_of def o ≡ Some op → ⊥) → IsOffered op [] false
 
   -- of each operator in order, and whether one has more than are offered
@@ -79,25 +96,26 @@ module _ (def : Definition) (kind : Kind) (tree : Fragment) (spot : Spot) (least
     one_more : {op : Name} {ops : List Name} {here more : List Entry} {there left : Bool} → IsOffered op here there
         → AreOffered ops more left → AreOffered (op ∷ ops) (here ++ more) (there || left)
 
--- the names with which an operator fits at the spot and that begin so
-abbrev pub AreNamesTold : Definition → Kind → Fragment → Spot → Name → List ℕ → List Name → Type 0
-AreNamesTold def kind tree spot op prefix names = (told : Option Read)
-    × IsToldOf def kind tree spot (names_of op) (names_told tree) told × (names ≡ begun prefix (lines_of told))
+-- the names with which an operator is written at the spot
+abbrev pub AreNamesTold : Definition → Kind → Fragment → Spot → Name → Name → List ℕ → List Name → Type 0
+AreNamesTold def kind tree spot op sample prefix names = (told : Option Read)
+    × IsToldOf def kind tree spot (names_of op) (names_told tree) told
+    × (names ≡ written_names sample prefix (lines_of told))
 
 -- what is offered of an operator, and of operators
-abbrev pub IsOfferedOf : Definition → Kind → Fragment → Spot → ℕ → List ℕ → Name → Offers → Type 0
-IsOfferedOf def kind tree spot least prefix op offers =
-    IsOffered def kind tree spot least prefix op offers.entries.items offers.more
+abbrev pub IsOfferedOf : Definition → Kind → Fragment → Spot → ℕ → Name → List ℕ → Name → Offers → Type 0
+IsOfferedOf def kind tree spot least sample prefix op offers =
+    IsOffered def kind tree spot least sample prefix op offers.entries.items offers.more
 
-abbrev pub AreOffersOf : Definition → Kind → Fragment → Spot → ℕ → List ℕ → List Name → Offers → Type 0
-AreOffersOf def kind tree spot least prefix ops offers =
-    AreOffered def kind tree spot least prefix ops offers.entries.items offers.more
+abbrev pub AreOffersOf : Definition → Kind → Fragment → Spot → ℕ → Name → List ℕ → List Name → Offers → Type 0
+AreOffersOf def kind tree spot least sample prefix ops offers =
+    AreOffered def kind tree spot least sample prefix ops offers.entries.items offers.more
 
 -- what is offered at the spot: of the operators that the plain editor's `menu` lists, in its order
-abbrev pub IsOfferedAt : Definition → Kind → Fragment → Spot → ℕ → List ℕ → Offers → Type 0
-IsOfferedAt def kind tree spot least prefix offers = (told : Option Read)
+abbrev pub IsOfferedAt : Definition → Kind → Fragment → Spot → ℕ → Name → List ℕ → Offers → Type 0
+IsOfferedAt def kind tree spot least sample prefix offers = (told : Option Read)
     × IsToldOf def kind tree spot menu_of words_told told
-    × AreOffersOf def kind tree spot least prefix (lines_of told) offers
+    × AreOffersOf def kind tree spot least sample prefix (lines_of told) offers
 
 -- one after the other
 pub record AreJoined (first second both : Offers) : Type 0 where
@@ -107,7 +125,8 @@ pub record AreJoined (first second both : Offers) : Type 0 where
 -- at the placeholder of the path
 abbrev pub AreOffersIn : Definition → Kind → Fragment → Path → List ℕ → Offers → Type 0
 AreOffersIn def kind tree path prefix offers =
-    (least : ℕ) × IsLeast def tree path least × IsOfferedAt def kind tree (spot_at path) least prefix offers
+    (least : ℕ) × IsLeast def tree path least × (sample : Name) × IsSampleName def sample
+    × IsOfferedAt def kind tree (spot_at path) least sample prefix offers
 
 -- ---- what is put
 
@@ -144,13 +163,13 @@ pub data IsCompleted (def : Definition) (kind : Kind) (own : List ℕ) (w : Word
   too_much : (f : Filling) → IsFirst (Fits def kind own w) (fillings def) (Some f)
       → IsTooMuch def kind (filled def own w f) → c.entries.items ≡ [] → c.incomplete ≡ false
       → IsCompleted def kind own w c
-  offers : (f : Filling) (j : Judged) (path : Path) (least : ℕ) (told : Option Read)
+  offers : (f : Filling) (j : Judged) (path : Path) (least : ℕ) (sample : Name) (told : Option Read)
       → IsFirst (Fits def kind own w) (fillings def) (Some f) → IsJudged def kind (filled def own w f) j
       → HasPlaceholder def kind (filled def own w f) (mark_byte def w f) f.phylum (tree_in j.note) path
       → IsToldOf def kind (tree_in j.note) (spot_at path) menu_of words_told told
-      → IsLeast def (tree_in j.note) path least
-      → AreOffered def kind (tree_in j.note) (spot_at path) least (prefix_of own w) (lines_of told) c.entries.items
-      c.incomplete → c.before ≡ put_before def own w f.side → c.behind ≡ put_behind def own w f.side
+      → IsLeast def (tree_in j.note) path least → IsSampleName def sample
+      → AreOffered def kind (tree_in j.note) (spot_at path) least sample (prefix_of own w) (lines_of told)
+      c.entries.items c.incomplete → c.before ≡ put_before def own w f.side → c.behind ≡ put_behind def own w f.side
       → IsCompleted def kind own w c
 
 -- so it is, and the word has these bytes in the whole text

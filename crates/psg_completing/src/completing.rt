@@ -12,6 +12,7 @@ ghost use Rattle.psg_lexis.specs.Classes.{is_symbol as is_symbol_of};
 use crate::around::{Word, is_word, word_around};
 use crate::fillings::{Side, before, behind};
 use crate::fitting::{Fitted, first_fit};
+use crate::naming::sample_name;
 use crate::offering::{Entry, Offers, Open, offers_at};
 use crate::wanted::least_at;
 use psg_grammar::{Definition, Kind};
@@ -161,10 +162,13 @@ fn offers_in<L: Ledger>(
         place: None,
     };
     let known = judged.known(language, kind);
+    let name = sample_name(alloc, language)?;
+    let sample = name.as_str();
     let open = Open {
         known,
         spot: &spot,
         least,
+        sample,
         prefix,
     };
     let offers = offers_at(alloc, open, steps)?;
@@ -274,8 +278,10 @@ fn inside(own: &[u8], byte: usize) -> usize
 ///
 /// The entries are what the plain editor's `menu` lists for that placeholder, in its order; of a wrong program that of
 /// the repaired one. An operator of which only a name that it uses is typed has an entry for each name that fits and
-/// begins with the word, at most a hundred. Each other one has one entry, in which names are `name`, numbers 0 and
-/// texts empty. Bytes are those of the whole text, with a byte order mark.
+/// begins with the word, or for each name that fits where none begins so, at most a hundred. Each other one, and one
+/// that no name fits, has one entry, in which names are `name`, numbers 0 and texts empty. Where `name` is a fixed word
+/// of the language, names have as many `_` after it as make it none. Bytes are those of the whole text, with a byte
+/// order mark.
 ///
 /// `steps` counts the tokens and the evaluations. It fails where memory runs out. It takes a reading of the text for
 /// each placeholder that is tried, an evaluation of each node, of a wrong program the search for its blamed places, and

@@ -14,6 +14,8 @@ mod around;
 mod completing;
 mod fillings;
 mod fitting;
+pub mod laws;
+mod naming;
 mod offering;
 mod samples;
 mod wanted;

@@ -1,5 +1,5 @@
 //! What is offered at a placeholder of a program.
-ghost use Rattle.std.specs.Prelude.{◌≡◌, ◌<◌, ◌∷◌, [], ◌++◌, IfOk, OnOk, Some, codes};
+ghost use Rattle.std.specs.Prelude.{◌≡◌, ◌<◌, ◌∷◌, [], ◌++◌, IfOk, OnOk, Some};
 ghost use Rattle.std.specs.Prelude.{false, length, map, nat_lt, slice_get};
 ghost use Rattle.std.specs.Prelude.{take};
 ghost use Rattle.std.specs.Prelude.{option_copied, option_map, string_bytes};
@@ -48,6 +48,8 @@ pub(crate) struct Open<'a> {
     pub(crate) spot: &'a Spot,
     /// The level that is wanted there.
     pub(crate) least: u8,
+    /// The name that is written where none is given.
+    pub(crate) sample: &'a str,
     /// What names begin with.
     pub(crate) prefix: &'a [u8],
 }
@@ -108,32 +110,69 @@ fn push_begun(
     Ok(())
 }
 
-/// Returns the names of an answer that begin so; none where it was refused.
+/// Returns those of the names that begin so, or all of them where none begins so.
+fn begun_or_all(alloc: Global, prefix: &[u8], names: &[String]) -> Result<Vec<Txt>, AllocError>
+    ensures { IfOk result (λ kept. kept.items ≡ offered.begun_or_all prefix.now (map string_bytes names.now)) }
+{
+    let some = begun(alloc, prefix, names)?;
+    let row = some.as_slice();
+    let none = row.is_empty();
+    if none {
+        let all = begun(alloc, &[], names)?;
+        return Ok(all);
+    }
+    Ok(some)
+}
+
+/// Returns the name alone.
+fn alone(alloc: Global, name: &str) -> Result<Vec<Txt>, AllocError>
+    ensures { IfOk result (λ names. names.items ≡ name.now ∷ []) }
+{
+    let copy = Txt::copy_of(alloc, name)?;
+    let mut names = Vec::new(alloc);
+    names.push(copy)?;
+    Ok(names)
+}
+
+/// Returns the names, or the sample where there are none.
+fn or_sample(alloc: Global, sample: &str, names: Vec<Txt>) -> Result<Vec<Txt>, AllocError>
+    ensures { IfOk result (λ written. written.items ≡ offered.or_those names.items (sample.now ∷ [])) }
+{
+    let row = names.as_slice();
+    let none = row.is_empty();
+    if none {
+        let single = alone(alloc, sample)?;
+        return Ok(single);
+    }
+    Ok(names)
+}
+
+/// Returns the names of an answer that begin so, or all where none begins so; none where it was refused.
 fn names_answered(
     alloc: Global,
     prefix: &[u8],
     told: Result<Vec<String>, Refusal>,
 ) -> Result<Vec<Txt>, AllocError>
-    ensures { IfOk result (λ names. names.items ≡ offered.begun prefix.now (or_none (read_of told))) }
+    ensures { IfOk result (λ names. names.items ≡ offered.begun_or_all prefix.now (or_none (read_of told))) }
 {
     match told {
         Ok(names) => {
             let row = names.as_slice();
-            let kept = begun(alloc, prefix, row)?;
+            let kept = begun_or_all(alloc, prefix, row)?;
             Ok(kept)
         }
         Err(_) => Ok(Vec::new(alloc)),
     }
 }
 
-/// Returns the names that were given and begin so; none where none were given.
+/// Returns the names that were given and begin so, or all where none begins so; none where none were given.
 fn names_in(
     alloc: Global,
     prefix: &[u8],
     read: Option<Result<Vec<String>, Refusal>>,
 ) -> Result<Vec<Txt>, AllocError>
     ensures { IfOk result (λ names. names.items
-        ≡ offered.begun prefix.now (lines_of (option_map read_of read))) }
+        ≡ offered.begun_or_all prefix.now (lines_of (option_map read_of read))) }
 {
     match read {
         Some(told) => {
@@ -144,7 +183,8 @@ fn names_in(
     }
 }
 
-/// Returns the names that fit at the placeholder and begin so.
+/// Returns the names with which the operator is written at the placeholder: those that fit and begin so, or all that
+/// fit where none begins so, or the sample where none fits.
 fn names_told<L: Ledger>(
     alloc: Global,
     open: Open,
@@ -155,12 +195,13 @@ fn names_told<L: Ledger>(
         open.known.wrong (option_copied open.known.repair) }
     ensures { IfOk result (λ names. offered.AreNamesTold open.entry.known.program.language.now
         open.entry.known.program.kind (tree_in open.entry.known.program.note.now) open.entry.spot.now op.now
-        open.entry.prefix.now names.items) }
+        open.entry.sample.now open.entry.prefix.now names.items) }
 {
     let mut files = SureFiles::new(alloc, Vec::new(alloc));
     let name = Txt::copy_of(alloc, op)?;
     let read = names_at(alloc, open.known, open.spot, name, &mut files, steps)?;
-    let names = names_in(alloc, open.prefix, read)?;
+    let found = names_in(alloc, open.prefix, read)?;
+    let names = or_sample(alloc, open.sample, found)?;
     Ok(names)
 }
 
@@ -190,7 +231,7 @@ fn entries_with(
     Ok(entries)
 }
 
-/// Returns the one entry of the operator.
+/// Returns the one entry of the operator, with the sample.
 fn one_entry(
     alloc: Global,
     open: Open,
@@ -199,11 +240,9 @@ fn one_entry(
 ) -> Result<Vec<Entry>, AllocError>
     requires { operator_at open.known.program.language.now op ≡ Some operator.now }
     ensures { IfOk result (λ entries. entries.items ≡ offered.entries_with open.entry.known.program.language.now
-        open.entry.least operator.now.name op (codes "name" ∷ [])) }
+        open.entry.least operator.now.name op (open.entry.sample.now ∷ [])) }
 {
-    let name = Txt::copy_of(alloc, "name")?;
-    let mut names = Vec::new(alloc);
-    names.push(name)?;
+    let names = alone(alloc, open.sample)?;
     let row = names.as_slice();
     let entries = entries_with(alloc, open, operator, op, row)?;
     Ok(entries)
@@ -266,7 +305,7 @@ fn offers_with<L: Ledger>(
     requires name { op_name_of open.known.program.language.now op ≡ Some name.now }
     ensures { IfOk result (offered.IsOfferedOf open.entry.known.program.language.now open.entry.known.program.kind
         (tree_in open.entry.known.program.note.now) open.entry.spot.now open.entry.least
-        open.entry.prefix.now name.now) }
+        open.entry.sample.now open.entry.prefix.now name.now) }
 {
     let definition = open.known.program.language.definition();
     let operator = operator_of(definition, op);
@@ -288,8 +327,8 @@ fn offers_with<L: Ledger>(
     })
 }
 
-/// Returns what is offered of the operator of this name: an entry for each name that fits and begins so, where a name
-/// is all that is typed, and else one entry.
+/// Returns what is offered of the operator of this name: an entry for each name with which it is written, where a name
+/// that it uses is all that is typed, and else one entry with the sample.
 fn offers_of<L: Ledger>(
     alloc: Global,
     open: Open,
@@ -300,7 +339,7 @@ fn offers_of<L: Ledger>(
         open.known.wrong (option_copied open.known.repair) }
     ensures { IfOk result (offered.IsOfferedOf open.entry.known.program.language.now open.entry.known.program.kind
         (tree_in open.entry.known.program.note.now) open.entry.spot.now open.entry.least
-        open.entry.prefix.now name.now) }
+        open.entry.sample.now open.entry.prefix.now name.now) }
 {
     let definition = open.known.program.language.definition();
     match op_named(definition, name) {
@@ -352,8 +391,8 @@ fn offers_among<L: Ledger>(
     requires { IsKnown open.known.program.language.now open.known.program.kind open.known.program.note.now
         open.known.wrong (option_copied open.known.repair) }
     ensures { IfOk result (offered.AreOffersOf open.entry.known.program.language.now open.entry.known.program.kind
-        (tree_in open.entry.known.program.note.now) open.entry.spot.now open.entry.least open.entry.prefix.now
-        (map string_bytes ops.now)) }
+        (tree_in open.entry.known.program.note.now) open.entry.spot.now open.entry.least open.entry.sample.now
+        open.entry.prefix.now (map string_bytes ops.now)) }
 {
     let mut offers = no_offers(alloc);
     for op in ops {
@@ -374,8 +413,8 @@ fn offers_answered<L: Ledger>(
     requires { IsKnown open.known.program.language.now open.known.program.kind open.known.program.note.now
         open.known.wrong (option_copied open.known.repair) }
     ensures { IfOk result (offered.AreOffersOf open.entry.known.program.language.now open.entry.known.program.kind
-        (tree_in open.entry.known.program.note.now) open.entry.spot.now open.entry.least open.entry.prefix.now
-        (or_none (read_of told))) }
+        (tree_in open.entry.known.program.note.now) open.entry.spot.now open.entry.least open.entry.sample.now
+        open.entry.prefix.now (or_none (read_of told))) }
 {
     match told {
         Ok(ops) => {
@@ -397,8 +436,8 @@ fn offers_told<L: Ledger>(
     requires { IsKnown open.known.program.language.now open.known.program.kind open.known.program.note.now
         open.known.wrong (option_copied open.known.repair) }
     ensures { IfOk result (offered.AreOffersOf open.entry.known.program.language.now open.entry.known.program.kind
-        (tree_in open.entry.known.program.note.now) open.entry.spot.now open.entry.least open.entry.prefix.now
-        (lines_of (option_map read_of read))) }
+        (tree_in open.entry.known.program.note.now) open.entry.spot.now open.entry.least open.entry.sample.now
+        open.entry.prefix.now (lines_of (option_map read_of read))) }
 {
     match read {
         Some(told) => {
@@ -418,7 +457,8 @@ pub(crate) fn offers_at<L: Ledger>(
     requires { IsKnown open.known.program.language.now open.known.program.kind open.known.program.note.now
         open.known.wrong (option_copied open.known.repair) }
     ensures { IfOk result (offered.IsOfferedAt open.entry.known.program.language.now open.entry.known.program.kind
-        (tree_in open.entry.known.program.note.now) open.entry.spot.now open.entry.least open.entry.prefix.now) }
+        (tree_in open.entry.known.program.note.now) open.entry.spot.now open.entry.least open.entry.sample.now
+        open.entry.prefix.now) }
 {
     let mut files = SureFiles::new(alloc, Vec::new(alloc));
     let read = menu_at(alloc, open.known, open.spot, &mut files, steps)?;

@@ -1,5 +1,5 @@
 -- Which tokens of two lists are paired.
-use Rattle.std.specs.Prelude.{ℕ, ◌≡◌, ◌≢◌, ◌≤◌, ◌<◌, ◌+◌, ◌*◌, List, [], ◌∷◌, ◌++◌, length}
+use Rattle.std.specs.Prelude.{ℕ, ◌≡◌, ◌≢◌, ◌≤◌, ◌<◌, ◌+◌, ◌*◌, List, [], ◌∷◌, ◌++◌, length, replicate}
 use Rattle.psg_lexis.specs.declared.token.Token.{Token}
 use Rattle.psg_keeping.specs.declared.pairing.Step.{Step}
 use Rattle.psg_keeping.specs.declared.pairing.Step.TheVariants as steps
@@ -36,14 +36,25 @@ BeginApart (t ∷ old) (other ∷ new) = t ≢ other
 abbrev pub most_cells : ℕ
 most_cells = 4000000
 
--- Without all tokens that are the same at the beginning, and some that are the same at the end, the lists have more
--- pairs of a token of each than are looked at.
-pub record IsFar (old new : List Token) : Type 0 where
+-- no token is the last of both lists
+abbrev pub EndApart : List Token → List Token → Type 0
+EndApart old new = (before rest : List Token) (t : Token) → old ≡ before ++ t ∷ [] → new ≡ rest ++ t ∷ [] → ⊥
+
+-- the steps that pair no token of the lists with so many tokens
+abbrev pub alone : ℕ → ℕ → List Step
+alone old new = replicate old steps.Old ++ replicate new steps.New
+
+-- Without all tokens that are the same at the beginning, and then all that are the same at the end, the lists have more
+-- pairs of a token of each than are looked at. Then the tokens at the beginning and at the end are paired, and no others.
+pub record IsFar (old new : List Token) (taken : List Step) : Type 0 where
   pub front : List Token
   pub own : List Token
   pub other : List Token
   pub back : List Token
   pub old_is : old ≡ front ++ (own ++ back)
   pub new_is : new ≡ front ++ (other ++ back)
-  pub apart : BeginApart (own ++ back) (other ++ back)
+  pub apart : BeginApart own other
+  pub apart_at_end : EndApart own other
   pub far : most_cells < length own * length other
+  pub taken_are : taken ≡ replicate (length front) steps.Both ++ (alone (length own) (length other)
+      ++ replicate (length back) steps.Both)

@@ -57,7 +57,7 @@ module _ (fixed : List Name) (token old new : List ℕ) where
     pub shown_are : AreTokens fixed new shown
     pub steps : List Step
     pub paired : ArePairs (counted_of own) (counted_of shown) steps
-    pub most : IsFar (counted_of own) (counted_of shown) ⊎ IsMost (counted_of own) (counted_of shown) steps
+    pub most : IsFar (counted_of own) (counted_of shown) steps ⊎ IsMost (counted_of own) (counted_of shown) steps
     pub are : notes ≡ moved 0 steps (lines_of new shown) (notes_of old own comments)
 
   -- The text is the new one with the comments of the old one: the new one where there is no comment; the new one with

@@ -1,6 +1,6 @@
 //! Which tokens of two lists are paired.
-ghost use Rattle.std.specs.Prelude.{◌≡◌, ◌≤◌, ◌⊎◌, ◌++◌, IfOk, OnOk, drop, length, replicate, take};
-ghost use Rattle.psg_keeping.specs.Pairing.{ArePairs, BeginApart, IsFar, IsMost};
+ghost use Rattle.std.specs.Prelude.{◌≡◌, ◌≤◌, ◌-◌, ◌⊎◌, ◌++◌, IfOk, OnOk, drop, length, replicate, take};
+ghost use Rattle.psg_keeping.specs.Pairing.{ArePairs, BeginApart, EndApart, IsFar, IsMost};
 ghost use Rattle.psg_keeping.specs.Rows.{end_of};
 
 use crate::rows::middle_steps;
@@ -41,6 +41,7 @@ fn common_back(old: &[Token], new: &[Token]) -> usize
     ensures same { end_of result old.now ≡ end_of result new.now }
     ensures old { result ≤ length old.now }
     ensures new { result ≤ length new.now }
+    ensures apart { EndApart (take (length old.now - result) old.now) (take (length new.now - result) new.now) }
 {
     let mut count = 0;
     'same: while count < old.len() && count < new.len() {
@@ -68,7 +69,7 @@ pub(crate) fn push_steps(steps: &mut Vec<Step>, step: Step, times: usize) -> Res
 /// pairs.
 pub fn alignment(alloc: Global, old: &[Token], new: &[Token]) -> Result<Vec<Step>, AllocError>
     ensures pairs { IfOk result (λ s. ArePairs old.now new.now s.items) }
-    ensures most { IfOk result (λ s. IsFar old.now new.now ⊎ IsMost old.now new.now s.items) }
+    ensures most { IfOk result (λ s. IsFar old.now new.now s.items ⊎ IsMost old.now new.now s.items) }
 {
     let front = common_front(old, new);
     let (_, old_rest) = old.split_at(front);

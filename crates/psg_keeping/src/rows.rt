@@ -1,6 +1,6 @@
 //! A longest common subsequence of two lists, by a table of the lengths of those of their ends.
 ghost use Rattle.std.specs.Prelude.{◌≡◌, ◌<◌, ◌≤◌, ◌+◌, ◌*◌, ◌^◌, ◌⊎◌, ◌∷◌, [], IfOk, List, get_or, length};
-ghost use Rattle.psg_keeping.specs.Pairing.{ArePairs, IsMost, most_cells};
+ghost use Rattle.psg_keeping.specs.Pairing.{ArePairs, IsMost, alone, most_cells};
 ghost use Rattle.psg_keeping.specs.Rows.{AreRows, IsBest, IsNext, IsRow, new_in as new_in_of, old_in as old_in_of};
 ghost use Rattle.psg_keeping.specs.Rows.{end_of, value_at};
 ghost use Rattle.psg_lexis.specs.declared.token.Token.{Token as Plain};
@@ -154,7 +154,8 @@ fn traced(
 
 /// Returns steps that pair no tokens.
 fn unpaired(alloc: Global, old: &[Token], new: &[Token]) -> Result<Vec<Step>, AllocError>
-    ensures { IfOk result (λ s. ArePairs old.now new.now s.items) }
+    ensures pairs { IfOk result (λ s. ArePairs old.now new.now s.items) }
+    ensures alone { IfOk result (λ s. s.items ≡ alone (length old.now) (length new.now)) }
 {
     let mut steps = Vec::new(alloc);
     push_steps(&mut steps, Step::Old, old.len())?;
@@ -169,8 +170,8 @@ pub(crate) fn middle_steps(
     new: &[Token],
 ) -> Result<Vec<Step>, AllocError>
     ensures pairs { IfOk result (λ s. ArePairs old.now new.now s.items) }
-    ensures most { IfOk result (λ s. (most_cells < length old.now * length new.now)
-        ⊎ IsMost old.now new.now s.items) }
+    ensures most { IfOk result (λ s. ((most_cells < length old.now * length new.now)
+        × (s.items ≡ alone (length old.now) (length new.now))) ⊎ IsMost old.now new.now s.items) }
 {
     if old.len().saturating_mul(new.len()) > MOST_CELLS {
         return unpaired(alloc, old, new);

@@ -6,6 +6,7 @@ use Rattle.serde_json.specs.Data.{unsigned, negative, float, Data, null, boolean
 use Rattle.serde_json.specs.Find.{as_str, get, is_float, of_integer}
 use Rattle.serde_json.specs.View.{items_of}
 use Rattle.serde_json.specs.Written.{has_float, items_have_float}
+use Rattle.psg_comments.specs.declared.finding.Comment.{Comment}
 use Rattle.psg_completing.specs.declared.completing.Completion.{Completion}
 use Rattle.psg_completing.specs.declared.offering.Entry.{Entry}
 use Rattle.psg_documents.specs.declared.encoding.Encoding.{Encoding}
@@ -25,17 +26,18 @@ use Rattle.psg_messages.specs.declared.turns.Phase.TheVariants as phases
 use Rattle.psg_pointing.specs.declared.hovering.Hover.{Hover}
 use Rattle.psg_recover.specs.declared.finding.Finding.{Finding}
 use Rattle.psg_server.specs.declared.documents.Document.{Document}
+use Rattle.psg_server.specs.declared.judging.Defined.{Defined}
 use Rattle.psg_server.specs.declared.methods.Ask.{Ask}
 use Rattle.psg_server.specs.declared.methods.Ask.TheVariants as asked
 use Rattle.psg_server.specs.declared.server.Server.{Server}
 use Rattle.psg_server.specs.Answering.{completes, completes_none, asks, asks_none, names, names_none, names_not}
 use Rattle.psg_server.specs.Answering.{Answers, Gets, Out, Serves, changes, changes_none, closes, closes_none, exits, formats, formats_none, greets, hovers, hovers_none, is_passed, is_refused, is_served, json, no_json, opens, opens_none, sent, shuts_down, reason_of}
 use Rattle.psg_server.specs.Capabilities.{greeting_of}
-use Rattle.psg_server.specs.Completing.{AreItems, IsCompletedIn, no_items, one_item}
+use Rattle.psg_server.specs.Completing.{AreItems, IsCompletedAt, IsCompletedIn, completed_in_comment, completed_there, no_items, one_item, spaced}
 use Rattle.psg_server.specs.Diagnostics.{AreDiagnostics, IsPublished, IsPublishedOf, all_told, diagnostic_data, more_may_follow, one_more, publish_data, severity_of}
 use Rattle.psg_server.specs.Edits.{IsFormatting, IsFormattingOf, as_it_is, no_program, one_edit}
 use Rattle.psg_server.specs.Fields.{Renamed, changed_in, encoding_in, wants_declaring}
-use Rattle.psg_server.specs.Hovering.{IsTold, IsToldIn}
+use Rattle.psg_server.specs.Hovering.{IsTold, IsToldAt, IsToldIn, told_in_comment, told_there}
 use Rattle.psg_server.specs.Linking.{AreShown, IsDeclaration, IsList, IsNamedOf, IsPrepared, IsRepliedOf, IsReply, IsReplyOf, IsShown, Way}
 use Rattle.psg_server.specs.Linking.{as_edit, as_light, as_place, left_out, none_left, shown, shown_data, words_of}
 use Rattle.psg_server.specs.Methods.{is_known}
@@ -172,18 +174,18 @@ publish_plain : (address : List ℕ) (version : ℤ) (ds : List Data) → items_
 publish_plain address version ds e =
     ap₂ (λ a b. false || (false || ((a || (false || (b || false))) || false))) e (whole_number version)
 
-formatting_plain : (def : Definition) (kind : Kind) (encoding : Encoding) (text : List ℕ) (d : Data)
-    → IsFormatting def kind encoding text d → has_float d ≡ false
-formatting_plain def kind encoding text _ (no_program line column message is) = refl
-formatting_plain def kind encoding text _ (as_it_is f program same) = refl
-formatting_plain def kind encoding text _ (one_edit f d program other edit) =
+formatting_plain : (def : Defined) (kind : Kind) (encoding : Encoding) (text : List ℕ) (comments : List Comment)
+    (judged : List ℕ) (d : Data) → IsFormatting def kind encoding text comments judged d → has_float d ≡ false
+formatting_plain def kind encoding text comments judged _ (no_program line column message is) = refl
+formatting_plain def kind encoding text comments judged _ (as_it_is f program same) = refl
+formatting_plain def kind encoding text comments judged _ (one_edit f wanted d program is other edit) =
     ap (λ a. a || false)
     (ap has_float edit.is ∙ ap (λ a. false || (a || false)) (range_plain encoding text edit.from edit.to edit.range edit.is_range))
 
-format_plain : (def : Definition) (kind : Kind) (encoding : Encoding) (text : Option (List ℕ)) (d : Data)
+format_plain : (def : Defined) (kind : Kind) (encoding : Encoding) (text : Option (List ℕ)) (d : Data)
     → IsFormattingOf def kind encoding text d → has_float d ≡ false
 format_plain def kind encoding None d e = ap has_float e
-format_plain def kind encoding (Some text) d so = formatting_plain def kind encoding text d so
+format_plain def kind encoding (Some text) d so = formatting_plain def kind encoding text so.comments so.judged d so.so
 
 told_plain : (encoding : Encoding) (text : List ℕ) (hover : Option Hover) (d : Data) → IsTold encoding text hover d
     → has_float d ≡ false
@@ -191,10 +193,17 @@ told_plain encoding text None d is = ap has_float is
 told_plain encoding text (Some h) d is =
     ap has_float is.is ∙ ap (λ a. false || (a || false)) (range_plain encoding text h.start h.end is.range is.is_range)
 
-hover_plain : (def : Definition) (kind : Kind) (encoding : Encoding) (text : Option (List ℕ)) (position : Position) (d : Data)
+told_at_plain : (def : Definition) (kind : Kind) (encoding : Encoding) (text : List ℕ) (comments : List Comment) (judged : List ℕ)
+    (position : Position) (d : Data) → IsToldAt def kind encoding text comments judged position d → has_float d ≡ false
+told_at_plain def kind encoding text comments judged position d (told_in_comment byte is inside e) = ap has_float e
+told_at_plain def kind encoding text comments judged position d (told_there byte hover is outside says so) =
+    told_plain encoding text hover d so
+
+hover_plain : (def : Defined) (kind : Kind) (encoding : Encoding) (text : Option (List ℕ)) (position : Position) (d : Data)
     → IsToldIn def kind encoding text position d → has_float d ≡ false
 hover_plain def kind encoding None position d e = ap has_float e
-hover_plain def kind encoding (Some text) position d so = told_plain encoding text so.hover d so.is
+hover_plain def kind encoding (Some text) position d so =
+    told_at_plain def.language kind encoding text so.comments so.judged position d so.so
 
 -- ---- names
 
@@ -240,18 +249,19 @@ module _ (encoding : Encoding) (text : List ℕ) where
   reply_plain address ask all None d e = ap has_float e
   reply_plain address ask all (Some a) d is = name_plain address ask all a d is
 
-replied_plain : (def : Definition) (kind : Kind) (encoding : Encoding) (address : List ℕ) (text : Option (List ℕ)) (ask : Ask)
+replied_plain : (def : Defined) (kind : Kind) (encoding : Encoding) (address : List ℕ) (text : Option (List ℕ)) (ask : Ask)
     (all : Bool) (at : Position) (d : Data) → IsRepliedOf def kind encoding address text ask all at d → has_float d ≡ false
 replied_plain def kind encoding address None ask all at d e = ap has_float e
 replied_plain def kind encoding address (Some text) ask all at d so =
-    reply_plain encoding text address ask all so.linked d so.is
+    reply_plain encoding text address ask all so.so.linked d so.so.is
 
-named_plain : (def : Definition) (kind : Kind) (encoding : Encoding) (address : List ℕ) (text : Option (List ℕ)) (r : Renamed)
+named_plain : (def : Defined) (kind : Kind) (encoding : Encoding) (address : List ℕ) (text : Option (List ℕ)) (r : Renamed)
     (d : Data) → IsNamedOf def kind encoding address text r d → has_float d ≡ false
 named_plain def kind encoding address None r d never = absurd never
 named_plain def kind encoding address (Some text) r d so =
-    ap has_float so.is
-    ∙ ap (λ a. (a || false) || false) (all_plain encoding text (as_edit r.name) true so.spots.items so.edits so.are)
+    ap has_float so.so.is
+    ∙ ap (λ a. (a || false) || false)
+    (all_plain encoding text (as_edit r.name) true so.so.spots.items so.so.edits so.so.are)
 
 -- ---- what may be put at a place
 
@@ -265,26 +275,33 @@ entries_plain encoding text c filter _ _ (one_item {es} {ds} e d is rest) =
     (range_plain encoding text c.from c.to is.range is.is_range))
     (entries_plain encoding text c filter es ds rest)
 
-completed_plain : (def : Definition) (kind : Kind) (encoding : Encoding) (text : Option (List ℕ)) (position : Position)
+completed_at_plain : (def : Definition) (kind : Kind) (encoding : Encoding) (text : List ℕ) (comments : List Comment)
+    (judged : List ℕ) (byte : ℕ) (d : Data) → IsCompletedAt def kind encoding text comments judged byte d
+    → has_float d ≡ false
+completed_at_plain def kind encoding text comments judged byte d (completed_in_comment inside e) = ap has_float e
+completed_at_plain def kind encoding text comments judged byte d (completed_there c outside completed so) =
+    let put = spaced text comments c in
+    ap has_float so.is
+    ∙ ap (λ a. false || (a || false)) (entries_plain encoding text put so.filter put.entries.items so.items so.are)
+
+completed_plain : (def : Defined) (kind : Kind) (encoding : Encoding) (text : Option (List ℕ)) (position : Position)
     (d : Data) → IsCompletedIn def kind encoding text position d → has_float d ≡ false
 completed_plain def kind encoding None position d e = ap has_float e
 completed_plain def kind encoding (Some text) position d so =
-    ap has_float so.is.is
-    ∙ ap (λ a. false || (a || false))
-    (entries_plain encoding text so.completion so.is.filter so.completion.entries.items so.is.items so.is.are)
+    completed_at_plain def.language kind encoding text so.asked.comments so.asked.judged so.byte d so.asked.so
 
 -- ---- what is sent
 
-published_plain : (def : Definition) (kind : Kind) (encoding : Encoding) (d : Document) (told : Data)
+published_plain : (def : Defined) (kind : Kind) (encoding : Encoding) (d : Document) (told : Data)
     → IsPublished def kind encoding d told → has_float told ≡ false
 published_plain def kind encoding d told p = by d.text p where
   by : (text : Option (List ℕ)) → IsPublishedOf def kind encoding d.address d.version text told → has_float told ≡ false
   by None e = ap has_float e
   by (Some text) p =
-      ap has_float p.is ∙ publish_plain d.address d.version p.diagnostics
-      (diagnostics_plain encoding text p.found p.more p.diagnostics p.are)
+      ap has_float p.so.is ∙ publish_plain d.address d.version p.so.diagnostics
+      (diagnostics_plain encoding text p.so.found p.so.more p.so.diagnostics p.so.are)
 
-module _ (def : Definition) (kind : Kind) where
+module _ (def : Defined) (kind : Kind) where
   served_plain : (s : Said) (old : Server) (encoding : Encoding) (documents : List Document) (out : Out)
       → Serves def kind old s encoding documents out → HasPlainId s → IsPlainOut out
   served_plain _ old _ _ _ (greets id method given is) h =

@@ -6,7 +6,7 @@ use Rattle.std.specs.declared.alloc.Global.{Global}
 use Rattle.std.specs.Io.KnownBytes.{Consumes, Keeps}
 use Rattle.std.proofs.Math.Seq.{take-suc}
 use Rattle.std.proofs.lemmas.List.{drop_more, map-append, take-append-drop, take_all}
-use Rattle.psg_grammar.specs.declared.types.Definition.{Definition}
+use Rattle.psg_server.specs.declared.judging.Defined.{Defined}
 use Rattle.psg_grammar.specs.declared.types.Kind.{Kind}
 use Rattle.psg_protocol.specs.declared.reader.Frame.{Frame}
 use Rattle.psg_protocol.specs.declared.reader.Frame.TheVariants as frames
@@ -99,7 +99,7 @@ reply_ended reply status before after is same =
     subst (λ (r : Reply). IsReplyPut (Some (endings.Told status)) (out_of r) before after) (sym is)
     (inr (status, refl, same, refl))
 
-module _ (def : Definition) (kind : Kind) where
+module _ (def : Defined) (kind : Kind) where
   -- ---- a body that is taken
 
   -- the server ends with what comes of a body

@@ -4,13 +4,13 @@ use Rattle.std.specs.Io.KnownBytes.{Consumes, IsAtEnd, Keeps, append_known}
 use Rattle.serde_json.specs.Data.{Data}
 use Rattle.serde_json.specs.Written.{compact_text, has_float}
 use Rattle.psg_documents.specs.declared.encoding.Encoding.TheVariants as encodings
-use Rattle.psg_grammar.specs.declared.types.Definition.{Definition}
 use Rattle.psg_grammar.specs.declared.types.Kind.{Kind}
 use Rattle.psg_messages.specs.Answers.{refusal_of}
 use Rattle.psg_messages.specs.declared.turns.Fault.TheVariants as faults
 use Rattle.psg_messages.specs.declared.turns.Phase.TheVariants as phases
 use Rattle.psg_protocol.specs.Frames.{Event, HasRead, Reads, Rest, body, framed, long, lost}
 use Rattle.psg_server.specs.Answering.{Answers, Out, ended, sent, silent}
+use Rattle.psg_server.specs.declared.judging.Defined.{Defined}
 use Rattle.psg_server.specs.declared.server.Server.{Server}
 use Rattle.psg_lsp.specs.declared.ending.Ending.{Ending}
 use Rattle.psg_lsp.specs.declared.ending.Ending.TheVariants as endings
@@ -41,7 +41,7 @@ lost_data = refusal_of None faults.NoJson (codes "this has no length")
 -- ---- frames that are taken
 
 -- A frame is taken, and the server goes on: what follows from its body is put. A body that is too long changes nothing.
-pub data IsTaken (def : Definition) (kind : Kind) (old new : Server) (before after : Option (List ℕ)) : Event
+pub data IsTaken (def : Defined) (kind : Kind) (old new : Server) (before after : Option (List ℕ)) : Event
     → Type 0 where
   takes_body : (bytes : List ℕ) (out : Out) → Answers def kind bytes old new out → IsPut out before after
       → IsTaken def kind old new before after (body bytes)
@@ -49,7 +49,7 @@ pub data IsTaken (def : Definition) (kind : Kind) (old new : Server) (before aft
       → IsTaken def kind old new before after (long size)
 
 -- frames are taken, one after the other
-pub data AreTaken (def : Definition) (kind : Kind) : Server → Option (List ℕ) → List Event → Server → Option (List ℕ)
+pub data AreTaken (def : Defined) (kind : Kind) : Server → Option (List ℕ) → List Event → Server → Option (List ℕ)
     → Type 0 where
   none_taken : {s : Server} {written : Option (List ℕ)} → AreTaken def kind s written [] s written
   more_taken : {old new : Server} {before after : Option (List ℕ)} {events : List Event} (between : Server)
@@ -70,7 +70,7 @@ IsBroken endings.TooLong = ⊥
 
 -- The server ends with a frame: the client says so, and nothing is put; or the frame has no length, so that no other
 -- one can be found, and that is put.
-pub data Stops (def : Definition) (kind : Kind) (old : Server) (before after : Option (List ℕ)) : Event → Ending
+pub data Stops (def : Defined) (kind : Kind) (old : Server) (before after : Option (List ℕ)) : Event → Ending
     → Type 0 where
   by_exit : (bytes : List ℕ) (new : Server) (status : ℕ) → Answers def kind bytes old new (ended status)
       → after ≡ before
@@ -79,7 +79,7 @@ pub data Stops (def : Definition) (kind : Kind) (old : Server) (before after : O
   by_break : (event : Event) (ending : Ending) → IsBroken ending → Stops def kind old before after event ending
 
 -- it ends with one of the frames, after the ones before it
-pub record StopsWithin (def : Definition) (kind : Kind) (old : Server) (before after : Option (List ℕ))
+pub record StopsWithin (def : Defined) (kind : Kind) (old : Server) (before after : Option (List ℕ))
     (events : List Event)
     (ending : Ending) : Type 0 where
   pub taken : List Event
@@ -109,13 +109,13 @@ abbrev pub place_at : Option (List ℕ) → Rest → Server → Option (List ℕ
 place_at left rest server written = record { left = left; rest = rest; server = server; written = written }
 
 -- the frames that are whole with a piece are taken
-abbrev pub IsPieceTaken : Definition → Kind → (old new : Server) (rest next : Rest) (piece : List ℕ)
+abbrev pub IsPieceTaken : Defined → Kind → (old new : Server) (rest next : Rest) (piece : List ℕ)
     (before after : Option (List ℕ)) → Type 0
 IsPieceTaken def kind old new rest next piece before after =
     (events : List Event) × HasRead rest piece events next × AreTaken def kind old before events new after
 
 -- the server ends with one of the frames that are whole with a piece
-abbrev pub StopsAtPiece : Definition → Kind
+abbrev pub StopsAtPiece : Defined → Kind
     → (old : Server) (rest : Rest) (piece : List ℕ) (before after : Option (List ℕ))
     → Ending → Type 0
 StopsAtPiece def kind old rest piece before after ending =
@@ -123,7 +123,7 @@ StopsAtPiece def kind old rest piece before after ending =
     × StopsWithin def kind old before after events ending)
 
 -- a piece is read, and its frames are taken
-pub record GoesOn (def : Definition) (kind : Kind) (old new : Place) : Type 0 where
+pub record GoesOn (def : Defined) (kind : Kind) (old new : Place) : Type 0 where
   pub piece : List ℕ
   pub input : Consumes old.left new.left piece
   pub events : List Event
@@ -131,7 +131,7 @@ pub record GoesOn (def : Definition) (kind : Kind) (old new : Place) : Type 0 wh
   pub taken : AreTaken def kind old.server old.written events new.server new.written
 
 -- The input ends, or can't be read; or a piece is read, and the server ends with one of its frames.
-pub data IsOver (def : Definition) (kind : Kind) (old : Place) (left after : Option (List ℕ)) : Ending → Type 0 where
+pub data IsOver (def : Defined) (kind : Kind) (old : Place) (left after : Option (List ℕ)) : Ending → Type 0 where
   no_piece : Consumes old.left left [] → IsAtEnd left → after ≡ old.written
       → IsOver def kind old left after (endings.Told 0)
   no_reading : Keeps old.left left → after ≡ old.written → IsOver def kind old left after endings.ReadFault
@@ -148,7 +148,7 @@ at_start = record { phase = phases.Before; encoding = encodings.Utf16; documents
 
 -- The frames that were read are all taken, and the input ends, or can't be read further. Or the server ends with one of
 -- them.
-pub data Ends (def : Definition) (kind : Kind) (now before after : Option (List ℕ)) (events : List Event) : Ending
+pub data Ends (def : Defined) (kind : Kind) (now before after : Option (List ℕ)) (events : List Event) : Ending
     → Type 0 where
   at_end : (server : Server) → AreTaken def kind at_start before events server after → IsAtEnd now
       → Ends def kind now before after events (endings.Told 0)
@@ -159,7 +159,7 @@ pub data Ends (def : Definition) (kind : Kind) (now before after : Option (List 
 
 -- The bytes that were taken from the input are those of some frames, however they were cut, and the server ends with
 -- them.
-pub record HasTalked (def : Definition) (kind : Kind) (left now before after : Option (List ℕ))
+pub record HasTalked (def : Defined) (kind : Kind) (left now before after : Option (List ℕ))
     (ending : Ending) : Type 0
   where
     pub bytes : List ℕ
@@ -169,5 +169,5 @@ pub record HasTalked (def : Definition) (kind : Kind) (left now before after : O
     pub reads : Reads 0 bytes events rest
     pub ends : Ends def kind now before after events ending
 
-abbrev pub Talks : Definition → Kind → (left now before after : Option (List ℕ)) → Ending → Type 0
+abbrev pub Talks : Defined → Kind → (left now before after : Option (List ℕ)) → Ending → Type 0
 Talks def kind left now before after ending = IsBroken ending ⊎ HasTalked def kind left now before after ending

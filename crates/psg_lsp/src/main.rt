@@ -36,17 +36,17 @@ fn serve<F: Files, I: Pieces, O: Sink, L: Ledger>(
     requires parts { ledger.parts ≡ L.parts }
     requires some { 0 < L.parts }
 {
-    let language = match read_language(alloc, definition, files) {
-        Ok(Read::Served(language)) => language,
+    let defined = match read_language(alloc, definition, files) {
+        Ok(Read::Served(defined)) => defined,
         Ok(Read::Refused(line)) => return refuse(alloc, line.as_str(), input, out),
         Err(ending) => return ending,
     };
-    let kind = match kind_of(&language, kind) {
+    let kind = match kind_of(&defined.language, kind) {
         Some(kind) => kind,
         None => return Ending::Words,
     };
     let mut steps = Steps::<L>::of(ledger);
-    talk(alloc, &language, kind, input, out, &mut steps)
+    talk(alloc, &defined, kind, input, out, &mut steps)
 }
 
 /// Does what the words after the program's name say: the file of a definition, and the name of a phylum or list of it.

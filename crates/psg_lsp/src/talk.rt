@@ -4,8 +4,10 @@ ghost use Rattle.std.specs.Io.KnownBytes.{append_known};
 ghost use Rattle.std.specs.Option.{option_map};
 ghost use Rattle.serde_json.specs.View.{view};
 ghost use Rattle.serde_json.specs.Written.{compact_text, has_float};
+ghost use Rattle.psg_defcomment.specs.Reading.{IsCommentOf};
+ghost use Rattle.psg_grammar.specs.WellFormed.{fixed_words};
 ghost use Rattle.psg_grammar.specs.Kinds.{HasKind};
-ghost use Rattle.psg_grammar.specs.declared.types.Definition.{Definition as Plain};
+ghost use Rattle.psg_server.specs.declared.judging.Defined.{Defined as Plain};
 ghost use Rattle.psg_grammar.specs.declared.types.Kind.{Kind as PlainKind};
 ghost use Rattle.psg_messages.specs.Answers.{refusal_of};
 ghost use Rattle.psg_protocol.specs.Frames.{body as body_event, event_of, framed as framed_of, lost};
@@ -20,8 +22,7 @@ use crate::ending::{Ending, read_ending, write_ending};
 use psg_grammar::Kind;
 use psg_messages::{Fault, refusal};
 use psg_protocol::{Frame, FrameReader, framed};
-use psg_server::{Reply, Server};
-use psg_specimen::Language;
+use psg_server::{Defined, Reply, Server};
 use psg_terms::Steps;
 use psg_world::{Pieces, Sink, put_all};
 use serde_json::Value;
@@ -106,20 +107,21 @@ fn put_reply<O: Sink>(alloc: Global, reply: &Reply, out: &mut O) -> Option<Endin
 /// Takes the body of a frame. Returns the ending, if the server ends with it.
 fn take_body<O: Sink, L: Ledger>(
     alloc: Global,
-    language: &Language,
+    defined: &Defined,
     kind: Kind,
     server: &mut Server,
     body: &[u8],
     out: &mut O,
     steps: &mut Steps<L>,
 ) -> Option<Ending>
-    requires kind { HasKind language.now kind }
-    requires quiet_kind { IsDeclaringPhylum language.now kind → ⊥ }
-    ensures { MatchOption result ((o : Out) × Answers language.now kind body.now server.old server.new o
+    requires kind { HasKind defined.now.language kind }
+    requires fit { IsCommentOf (fixed_words defined.now.language) defined.now.comment }
+    requires quiet_kind { IsDeclaringPhylum defined.now.language kind → ⊥ }
+    ensures { MatchOption result ((o : Out) × Answers defined.now kind body.now server.old server.new o
         × IsPut o (O.written out.old) (O.written out.new))
-        (λ e. Stops language.now kind server.old (O.written out.old) (O.written out.new) (body_event body.now) e) }
+        (λ e. Stops defined.now kind server.old (O.written out.old) (O.written out.new) (body_event body.now) e) }
 {
-    match server.answer(alloc, language, kind, body, steps) {
+    match server.answer(alloc, defined, kind, body, steps) {
         Ok(reply) => {
             let done = put_reply(alloc, &reply, out);
             done
@@ -150,22 +152,23 @@ fn put_lost<O: Sink>(alloc: Global, out: &mut O) -> Ending
 /// Takes a frame. Returns the ending, if the server ends with it.
 fn take_frame<O: Sink, L: Ledger>(
     alloc: Global,
-    language: &Language,
+    defined: &Defined,
     kind: Kind,
     server: &mut Server,
     frame: &Frame,
     out: &mut O,
     steps: &mut Steps<L>,
 ) -> Option<Ending>
-    requires kind { HasKind language.now kind }
-    requires quiet_kind { IsDeclaringPhylum language.now kind → ⊥ }
+    requires kind { HasKind defined.now.language kind }
+    requires fit { IsCommentOf (fixed_words defined.now.language) defined.now.comment }
+    requires quiet_kind { IsDeclaringPhylum defined.now.language kind → ⊥ }
     ensures { MatchOption result
-        (IsTaken language.now kind server.old server.new (O.written out.old) (O.written out.new) (event_of frame.now))
-        (λ e. Stops language.now kind server.old (O.written out.old) (O.written out.new) (event_of frame.now) e) }
+        (IsTaken defined.now kind server.old server.new (O.written out.old) (O.written out.new) (event_of frame.now))
+        (λ e. Stops defined.now kind server.old (O.written out.old) (O.written out.new) (event_of frame.now) e) }
 {
     match frame {
         Frame::Body(body) => {
-            let done = take_body(alloc, language, kind, server, body.as_slice(), out, steps);
+            let done = take_body(alloc, defined, kind, server, body.as_slice(), out, steps);
             done
         }
         Frame::TooLong(_) => {
@@ -182,22 +185,23 @@ fn take_frame<O: Sink, L: Ledger>(
 /// Takes the frames of a piece, one after the other. Returns the ending, if the server ends with one of them.
 fn take_frames<O: Sink, L: Ledger>(
     alloc: Global,
-    language: &Language,
+    defined: &Defined,
     kind: Kind,
     server: &mut Server,
     frames: &[Frame],
     out: &mut O,
     steps: &mut Steps<L>,
 ) -> Option<Ending>
-    requires kind { HasKind language.now kind }
-    requires quiet_kind { IsDeclaringPhylum language.now kind → ⊥ }
-    ensures { MatchOption result (AreTaken language.now kind server.old (O.written out.old) (map event_of frames.now)
+    requires kind { HasKind defined.now.language kind }
+    requires fit { IsCommentOf (fixed_words defined.now.language) defined.now.comment }
+    requires quiet_kind { IsDeclaringPhylum defined.now.language kind → ⊥ }
+    ensures { MatchOption result (AreTaken defined.now kind server.old (O.written out.old) (map event_of frames.now)
         server.new (O.written out.new))
         (λ e.
-        StopsWithin language.now kind server.old (O.written out.old) (O.written out.new) (map event_of frames.now) e) }
+        StopsWithin defined.now kind server.old (O.written out.old) (O.written out.new) (map event_of frames.now) e) }
 {
     for place in 0..frames.len() {
-        match take_frame(alloc, language, kind, server, &frames[place], out, steps) {
+        match take_frame(alloc, defined, kind, server, &frames[place], out, steps) {
             Some(ending) => return Some(ending),
             None => (),
         }
@@ -208,7 +212,7 @@ fn take_frames<O: Sink, L: Ledger>(
 /// Takes the frames that are whole with the next piece. Returns the ending, if the server ends with one of them.
 fn take_piece<O: Sink, L: Ledger>(
     alloc: Global,
-    language: &Language,
+    defined: &Defined,
     kind: Kind,
     server: &mut Server,
     reader: &mut FrameReader,
@@ -216,17 +220,18 @@ fn take_piece<O: Sink, L: Ledger>(
     out: &mut O,
     steps: &mut Steps<L>,
 ) -> Option<Ending>
-    requires kind { HasKind language.now kind }
-    requires quiet_kind { IsDeclaringPhylum language.now kind → ⊥ }
+    requires kind { HasKind defined.now.language kind }
+    requires fit { IsCommentOf (fixed_words defined.now.language) defined.now.comment }
+    requires quiet_kind { IsDeclaringPhylum defined.now.language kind → ⊥ }
     ensures { MatchOption result
-        (IsPieceTaken language.now kind server.old server.new reader.old reader.new piece.now
+        (IsPieceTaken defined.now kind server.old server.new reader.old reader.new piece.now
         (O.written out.old) (O.written out.new))
         (λ e.
-        StopsAtPiece language.now kind server.old reader.old piece.now (O.written out.old) (O.written out.new) e) }
+        StopsAtPiece defined.now kind server.old reader.old piece.now (O.written out.old) (O.written out.new) e) }
 {
     match reader.read(alloc, piece) {
         Ok(frames) => {
-            let done = take_frames(alloc, language, kind, server, frames.as_slice(), out, steps);
+            let done = take_frames(alloc, defined, kind, server, frames.as_slice(), out, steps);
             done
         }
         Err(_) => Some(Ending::Memory),
@@ -236,7 +241,7 @@ fn take_piece<O: Sink, L: Ledger>(
 /// Takes the next piece of the input. Returns the ending, if the server ends with it.
 fn take_next<I: Pieces, O: Sink, L: Ledger>(
     alloc: Global,
-    language: &Language,
+    defined: &Defined,
     kind: Kind,
     server: &mut Server,
     reader: &mut FrameReader,
@@ -244,12 +249,13 @@ fn take_next<I: Pieces, O: Sink, L: Ledger>(
     out: &mut O,
     steps: &mut Steps<L>,
 ) -> Option<Ending>
-    requires kind { HasKind language.now kind }
-    requires quiet_kind { IsDeclaringPhylum language.now kind → ⊥ }
+    requires kind { HasKind defined.now.language kind }
+    requires fit { IsCommentOf (fixed_words defined.now.language) defined.now.comment }
+    requires quiet_kind { IsDeclaringPhylum defined.now.language kind → ⊥ }
     ensures { MatchOption result
-        (GoesOn language.now kind (place_at (I.left input.old) reader.old server.old (O.written out.old))
+        (GoesOn defined.now kind (place_at (I.left input.old) reader.old server.old (O.written out.old))
         (place_at (I.left input.new) reader.new server.new (O.written out.new)))
-        (λ e. IsOver language.now kind (place_at (I.left input.old) reader.old server.old (O.written out.old))
+        (λ e. IsOver defined.now kind (place_at (I.left input.old) reader.old server.old (O.written out.old))
         (I.left input.new) (O.written out.new) e) }
 {
     match input.next_piece(alloc, MOST_PIECE) {
@@ -258,7 +264,7 @@ fn take_next<I: Pieces, O: Sink, L: Ledger>(
                 return Some(Ending::Told(0));
             }
             let bytes = piece.as_slice();
-            let done = take_piece(alloc, language, kind, server, reader, bytes, out, steps);
+            let done = take_piece(alloc, defined, kind, server, reader, bytes, out, steps);
             done
         }
         Err(stop) => Some(read_ending(stop)),
@@ -269,15 +275,16 @@ fn take_next<I: Pieces, O: Sink, L: Ledger>(
 /// for 2^64 - 1 pieces.
 pub fn talk<I: Pieces, O: Sink, L: Ledger>(
     alloc: Global,
-    language: &Language,
+    defined: &Defined,
     kind: Kind,
     input: &mut I,
     out: &mut O,
     steps: &mut Steps<L>,
 ) -> Ending
-    requires kind { HasKind language.now kind }
-    requires quiet_kind { IsDeclaringPhylum language.now kind → ⊥ }
-    ensures { Talks language.now kind (I.left input.old) (I.left input.new) (O.written out.old)
+    requires kind { HasKind defined.now.language kind }
+    requires fit { IsCommentOf (fixed_words defined.now.language) defined.now.comment }
+    requires quiet_kind { IsDeclaringPhylum defined.now.language kind → ⊥ }
+    ensures { Talks defined.now kind (I.left input.old) (I.left input.new) (O.written out.old)
         (O.written out.new) result }
 {
     let mut reader = FrameReader::new(alloc);
@@ -285,7 +292,7 @@ pub fn talk<I: Pieces, O: Sink, L: Ledger>(
     for _turn in 0..u64::MAX {
         match take_next(
             alloc,
-            language,
+            defined,
             kind,
             &mut server,
             &mut reader,

@@ -1,6 +1,7 @@
 -- What trials take that are made beside earlier notes.
-use Rattle.std.proofs.Common.{◌≡◌, ◌⊎◌, inl, inr, ℕ, suc, ◌+◌, ◌*◌, ◌^◌, ◌<◌, ◌≤◌, Bool, true, false, cond, List, [], ◌∷◌, length, Option, refl, ap, sym, ◌∙◌, subst, arith}
+use Rattle.std.proofs.Common.{◌≡◌, ◌⊎◌, inl, inr, ℕ, suc, ◌+◌, ◌*◌, ◌^◌, ◌<◌, ◌≤◌, Bool, true, false, cond, List, [], ◌∷◌, ◌++◌, length, Option, refl, ap, sym, ◌∙◌, subst, arith}
 use Rattle.std.specs.List.{AllByRecursion}
+use Rattle.std.proofs.lemmas.List.{append-nil, append_assoc}
 use Rattle.std.specs.Prelude.{Result, Ok, Err, IfOk}
 use Rattle.psg_terms.specs.Names.{Name}
 use Rattle.psg_grammar.specs.declared.types.Definition.{Definition}
@@ -15,7 +16,7 @@ use Rattle.psg_cache.proofs.DiffLaws.{diff-same}
 use Rattle.psg_cache.proofs.LeastLaws.{no_more_than_anew}
 use Rattle.psg_places.specs.declared.blaming.Blamed.{Blamed}
 use Rattle.psg_places.specs.declared.fault.BlameFault.{BlameFault}
-use Rattle.psg_places.specs.Answers.{AreRounds, IsNear, IsNextTree, IsRound, IsSearch, Round, beside_work, blamed_by, latest}
+use Rattle.psg_places.specs.Answers.{AreRounds, IsNear, IsNextTree, IsRound, IsSearch, Round, answers_by, beside_work, blamed_by, latest}
 use Rattle.psg_places.specs.Answers.{next_tree, rounds_work, trials_work}
 use Rattle.psg_places.specs.Blame.{blamed_in, kept_in}
 use Rattle.psg_places.specs.NewNames.{IsFront, new_name}
@@ -131,8 +132,8 @@ both_sums a b start mid now h k = omega (arith, h, k)
 
 module _ (def : Definition) (front : Name) (f : Fragment) where
   -- what a round takes, in which the tree of all the next places is made beside the old one
-  abbrev pub IsOneRound : ℕ → Fragment → Fragment → ℕ → ℕ → Type 0
-  IsOneRound h old all start now = (r : Round) × IsRound def front f h r × (all ≡ r.all)
+  abbrev pub IsOneRound : List Bool → ℕ → Fragment → Fragment → ℕ → ℕ → Type 0
+  IsOneRound kept h old all start now = (r : Round) × IsRound def front f kept h r × (all ≡ r.all)
       × (now ≤ start + (diff_of old r.all + beside_work r.all r.fewer))
 
   pub round_fewer : (kept : List Bool) (left h : ℕ) (old all : Fragment) (start mid now : ℕ)
@@ -140,10 +141,19 @@ module _ (def : Definition) (front : Name) (f : Fragment) where
       → mid ≤ start + diff_of old (next_tree def front kept left f)
       → (trees : List Fragment) × (length trees ≤ h) × AllByRecursion (IsNextTree def front f kept) trees
       × (now ≤ mid + beside_work all trees)
-      → IsOneRound h old all start now
+      → IsOneRound kept h old all start now
   round_fewer kept left h old all start mid now whole is climb (trees, many, each, more) = (
     record { all = all; fewer = trees },
-    record { kept = kept; left = left; whole = whole; all = is; fewer = each; few = many },
+    record {
+      kept = kept;
+      later = [];
+      first = sym (append-nil kept);
+      left = left;
+      whole = whole;
+      all = is;
+      fewer = each;
+      few = many;
+    },
     refl,
     both_sums (diff_of old all) (beside_work all trees) start mid now
         (subst (λ t. mid ≤ start + diff_of old t) (sym is) climb) more,
@@ -151,20 +161,39 @@ module _ (def : Definition) (front : Name) (f : Fragment) where
 
   pub round_all : (kept : List Bool) (left h : ℕ) (old all : Fragment) (start now : ℕ)
       → length kept + left ≡ place_count def f → all ≡ next_tree def front kept left f
-      → now ≤ start + diff_of old (next_tree def front kept left f) → IsOneRound h old all start now
+      → now ≤ start + diff_of old (next_tree def front kept left f) → IsOneRound kept h old all start now
   round_all kept left h old all start now whole is climb =
       round_fewer kept left h old all start now now whole is climb ([], omega arith, tt, omega arith)
 
+  -- the rounds that led to some answers lead to more answers
+  further_round : (kept more next : List Bool) (h : ℕ) (r : Round) → next ≡ kept ++ more → IsRound def front f kept h r
+      → IsRound def front f next h r
+  further_round kept more next h r e k = record {
+    kept = k.kept;
+    later = k.later ++ more;
+    first = e ∙ ap (λ xs. xs ++ more) k.first ∙ append_assoc k.kept k.later more;
+    left = k.left;
+    whole = k.whole;
+    all = k.all;
+    fewer = k.fewer;
+    few = k.few;
+  }
+
+  further : (kept more next : List Bool) (h : ℕ) (rs : List Round) → next ≡ kept ++ more
+      → AllByRecursion (IsRound def front f kept h) rs → AllByRecursion (IsRound def front f next h) rs
+  further kept more next h [] e k = tt
+  further kept more next h (r ∷ rs) e k = (further_round kept more next h r e k.0, further kept more next h rs e k.1)
+
   -- after some rounds, of which each blames a place but for the last one
-  pub record IsRounding (old base : Fragment) (h len places blamed start now : ℕ) : Type 0 where
+  pub record IsRounding (old base : Fragment) (kept : List Bool) (h places blamed start now : ℕ) : Type 0 where
     pub rounds : List Round
     pub last : base ≡ latest old rounds
-    pub count : (length rounds ≤ blamed) ⊎ ((len ≡ places) × (length rounds ≤ 1 + blamed))
-    pub each : AllByRecursion (IsRound def front f h) rounds
+    pub count : (length rounds ≤ blamed) ⊎ ((length kept ≡ places) × (length rounds ≤ 1 + blamed))
+    pub each : AllByRecursion (IsRound def front f kept h) rounds
     pub taken : now ≤ start + rounds_work old rounds
 
   pub rounding_first : (old base : Fragment) (h places start : ℕ) → base ≡ old
-      → IsRounding old base h 0 places 0 start start
+      → IsRounding old base [] h places 0 start start
   rounding_first old base h places start e = record {
     rounds = [];
     last = e;
@@ -180,39 +209,40 @@ module _ (def : Definition) (front : Name) (f : Fragment) where
   one_more_round n len places blamed next_len next true (inl le) lt ends is = inl (omega (arith, le, is))
   one_more_round n len places blamed next_len next false (inl le) lt ends is = inr (ends refl, omega (arith, le, is))
 
-  pub rounding_next : (old base all : Fragment) (h len places blamed start now later next_len next : ℕ) (b : Bool)
-      → IsRounding old base h len places blamed start now → len < places → (b ≡ false → next_len ≡ places)
-      → next ≡ blamed + cond b 1 0 → IsOneRound h base all now later
-      → IsRounding old all h next_len places next start later
-  rounding_next old base all h len places blamed start now later next_len next b k lt ends is (r, one, same, more) = record {
+  pub rounding_next : (old base all : Fragment) (kept more longer : List Bool) (h places blamed start now later next : ℕ)
+      (b : Bool) → longer ≡ kept ++ more → IsRounding old base kept h places blamed start now → length kept < places
+      → (b ≡ false → length longer ≡ places) → next ≡ blamed + cond b 1 0 → IsOneRound kept h base all now later
+      → IsRounding old all longer h places next start later
+  rounding_next old base all kept more longer h places blamed start now later next b on k lt ends is (r, one, same, taken) = record {
     rounds = r ∷ k.rounds;
     last = same;
-    count = one_more_round (length k.rounds) len places blamed next_len next b k.count lt ends is;
-    each = (one, k.each);
+    count = one_more_round (length k.rounds) (length kept) places blamed (length longer) next b k.count lt ends is;
+    each = (further_round kept more longer h r on one, further kept more longer h k.rounds on k.each);
     taken =
         both_sums (rounds_work old k.rounds) (diff_of (latest old k.rounds) r.all + beside_work r.all r.fewer) start now later
-        k.taken (subst (λ t. later ≤ now + (diff_of t r.all + beside_work r.all r.fewer)) k.last more);
+        k.taken (subst (λ t. later ≤ now + (diff_of t r.all + beside_work r.all r.fewer)) k.last taken);
   }
 
   at_most : (n len places blamed : ℕ) → (n ≤ blamed) ⊎ ((len ≡ places) × (n ≤ 1 + blamed)) → n ≤ 1 + blamed
   at_most n len places blamed (inl le) = omega (arith, le)
   at_most n len places blamed (inr (e, le)) = le
 
-  pub rounding_end : (old base : Fragment) (h len places blamed start now : ℕ)
-      → IsRounding old base h len places blamed start now → AreRounds def front f old h (1 + blamed) start now
-  rounding_end old base h len places blamed start now k = record {
+  pub rounding_end : (old base : Fragment) (kept : List Bool) (h places blamed start now : ℕ) → blamed ≡ blamed_in kept
+      → IsRounding old base kept h places blamed start now → AreRounds def front f old kept h start now
+  rounding_end old base kept h places blamed start now e k = record {
     rounds = k.rounds;
-    count = at_most (length k.rounds) len places blamed k.count;
+    count =
+        subst (λ n. length k.rounds ≤ 1 + n) e (at_most (length k.rounds) (length kept) places blamed k.count);
     each = k.each;
     taken = k.taken;
   }
 
-  pub no_rounds : (old : Fragment) (h n start : ℕ) → AreRounds def front f old h n start start
-  no_rounds old h n start = record { rounds = []; count = omega arith; each = tt; taken = omega arith }
+  pub no_rounds : (old : Fragment) (kept : List Bool) (h start : ℕ) → AreRounds def front f old kept h start start
+  no_rounds old kept h start = record { rounds = []; count = omega arith; each = tt; taken = omega arith }
 
   pub same_rounds : (old : Fragment) (h start now : ℕ) (xs ys : List Bool) → xs ≡ ys
-      → AreRounds def front f old h (1 + blamed_in ys) start now → AreRounds def front f old h (1 + blamed_in xs) start now
-  same_rounds old h start now xs ys e k = subst (λ ks. AreRounds def front f old h (1 + blamed_in ks) start now) (sym e) k
+      → AreRounds def front f old ys h start now → AreRounds def front f old xs h start now
+  same_rounds old h start now xs ys e k = subst (λ ks. AreRounds def front f old ks h start now) (sym e) k
 
   -- ---- a search
 
@@ -220,45 +250,46 @@ module _ (def : Definition) (front : Name) (f : Fragment) where
   nothing = opened def (kept_in []) (new_name front) f
 
   -- what the search takes after the first note
-  abbrev pub IsSearched : Fragment → ℕ → ℕ → ℕ → ℕ → Type 0
-  IsSearched old h blamed start now = (middle : ℕ)
+  abbrev pub IsSearched : Fragment → List Bool → ℕ → ℕ → ℕ → Type 0
+  IsSearched old kept h start now = (middle : ℕ)
       × (middle ≤ start + diff_of old (opened def (kept_in []) (new_name front) f))
-      × AreRounds def front f old h (1 + blamed) middle now
+      × AreRounds def front f old kept h middle now
 
   after_none : (d w start mid middle : ℕ) → d ≡ 0 → mid ≤ start + w → middle ≤ mid + d → middle ≤ start + w
   after_none d w start mid middle none h k = omega (arith, none, h, k)
 
-  search_anew : (old : Fragment) (h blamed start mid now : ℕ) → old ≡ nothing → mid ≤ start + work_of nothing
-      → IsSearched old h blamed mid now → IsSearch def f work_of (λ (t : Fragment). t) h blamed start now
-  search_anew old h blamed start mid now same anew (middle, climb, rounds) = record {
+  search_anew : (old : Fragment) (kept : List Bool) (h start mid now : ℕ) → old ≡ nothing
+      → mid ≤ start + work_of nothing → IsSearched old kept h mid now
+      → IsSearch def f work_of (λ (t : Fragment). t) kept h start now
+  search_anew old kept h start mid now same anew (middle, climb, rounds) = record {
     names = front;
     middle = middle;
     nothing = after_none (diff_of old nothing) (work_of nothing) start mid middle (none_same old nothing same) anew climb;
-    rounds = subst (λ t. AreRounds def front f t h (1 + blamed) middle now) same rounds;
+    rounds = subst (λ t. AreRounds def front f t kept h middle now) same rounds;
   }
 
-  search_noted : (old : Fragment) (h blamed start now : ℕ) → old ≡ f → IsSearched old h blamed start now
-      → IsSearch def f (diff_of f) (λ (t : Fragment). f) h blamed start now
-  search_noted old h blamed start now same (middle, climb, rounds) = record {
+  search_noted : (old : Fragment) (kept : List Bool) (h start now : ℕ) → old ≡ f → IsSearched old kept h start now
+      → IsSearch def f (diff_of f) (λ (t : Fragment). f) kept h start now
+  search_noted old kept h start now same (middle, climb, rounds) = record {
     names = front;
     middle = middle;
     nothing = subst (λ t. middle ≤ start + diff_of t nothing) same climb;
-    rounds = subst (λ t. AreRounds def front f t h (1 + blamed) middle now) same rounds;
+    rounds = subst (λ t. AreRounds def front f t kept h middle now) same rounds;
   }
 
   pub ok_search_anew : (r : Result (Option Blamed) BlameFault) (old : Fragment) (places start mid now : ℕ) → old ≡ nothing
       → mid ≤ start + work_of nothing
-      → IfOk r (λ found. (h : ℕ) → places ≤ 2 ^ h → IsSearched old h (blamed_by found) mid now)
+      → IfOk r (λ found. (h : ℕ) → places ≤ 2 ^ h → IsSearched old (answers_by found) h mid now)
       → IfOk r (λ found. (h : ℕ) → places ≤ 2 ^ h
-      → IsSearch def f work_of (λ (t : Fragment). t) h (blamed_by found) start now)
+      → IsSearch def f work_of (λ (t : Fragment). t) (answers_by found) h start now)
   ok_search_anew (Ok found) old places start mid now same anew k =
-      λ h le. search_anew old h (blamed_by found) start mid now same anew (k h le)
+      λ h le. search_anew old (answers_by found) h start mid now same anew (k h le)
   ok_search_anew (Err fault) old places start mid now same anew k = tt
 
   pub ok_search_noted : (r : Result (Option Blamed) BlameFault) (old : Fragment) (places start now : ℕ) → old ≡ f
-      → IfOk r (λ found. (h : ℕ) → places ≤ 2 ^ h → IsSearched old h (blamed_by found) start now)
+      → IfOk r (λ found. (h : ℕ) → places ≤ 2 ^ h → IsSearched old (answers_by found) h start now)
       → IfOk r (λ found. (h : ℕ) → places ≤ 2 ^ h
-      → IsSearch def f (diff_of f) (λ (t : Fragment). f) h (blamed_by found) start now)
+      → IsSearch def f (diff_of f) (λ (t : Fragment). f) (answers_by found) h start now)
   ok_search_noted (Ok found) old places start now same k =
-      λ h le. search_noted old h (blamed_by found) start now same (k h le)
+      λ h le. search_noted old (answers_by found) h start now same (k h le)
   ok_search_noted (Err fault) old places start now same k = tt

@@ -5,6 +5,7 @@ pub mod NewNameLaws
 pub mod OpeningLaws
 pub mod FormedLaws
 pub mod Whole
+pub mod KeptLaws
 pub mod CountLaws
 pub mod NumberedLaws
 pub mod OfPlacesLaws

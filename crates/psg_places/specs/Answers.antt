@@ -147,6 +147,11 @@ abbrev pub blamed_by : Option Blamed → ℕ
 blamed_by None = 0
 blamed_by (Some b) = blamed_in b.kept
 
+-- the answers of a search, none where it has no answer
+abbrev pub answers_by : Option Blamed → List Bool
+answers_by None = []
+answers_by (Some b) = b.kept
+
 -- ---- what the trials take
 
 -- the evaluations of trials, each of which is made beside the one tree
@@ -154,7 +159,7 @@ abbrev pub beside_work : Fragment → List Fragment → ℕ
 beside_work old [] = 0
 beside_work old (t ∷ ts) = diff_of old t + beside_work old ts
 
--- the tree that keeps all places after some answers, and the trees that keep fewer of these
+-- the tree that keeps all places after some first answers, and the trees that keep fewer of these
 pub record Round : Type 0 where
   pub all : Fragment
   pub fewer : List Fragment
@@ -174,28 +179,33 @@ rounds_work old (r ∷ rs) = rounds_work old rs + (diff_of (latest old rs) r.all
 abbrev pub IsNextTree : Definition → Name → Fragment → List Bool → Fragment → Type 0
 IsNextTree def front f kept t = (more : ℕ) × (t ≡ next_tree def front kept more f)
 
--- The trees of a round are those of some answers. At most so many keep fewer than all the next places.
-pub record IsRound (def : Definition) (front : Name) (f : Fragment) (most : ℕ) (r : Round) : Type 0 where
+-- A round is made after the first ones of the answers. Its tree keeps the places that these keep and all later ones. At
+-- most so many trees keep fewer of the later ones.
+pub record IsRound (def : Definition) (front : Name) (f : Fragment) (answers : List Bool) (most : ℕ) (r : Round)
+    : Type 0 where
   pub kept : List Bool
+  pub later : List Bool
+  pub first : answers ≡ kept ++ later
   pub left : ℕ
   pub whole : length kept + left ≡ place_count def f
   pub all : r.all ≡ next_tree def front kept left f
   pub fewer : AllByRecursion (IsNextTree def front f kept) r.fewer
   pub few : length r.fewer ≤ most
 
--- the evaluations of so many rounds at most, of which the first is made beside the old tree
-pub record AreRounds (def : Definition) (front : Name) (f old : Fragment) (most many from to : ℕ) : Type 0 where
+-- The evaluations of the rounds that lead to the answers, of which the first is made beside the old tree. There is one
+-- more than blamed places at most.
+pub record AreRounds (def : Definition) (front : Name) (f old : Fragment) (answers : List Bool) (most from to : ℕ)
+    : Type 0 where
   pub rounds : List Round
-  pub count : length rounds ≤ many
-  pub each : AllByRecursion (IsRound def front f most) rounds
+  pub count : length rounds ≤ 1 + blamed_in answers
+  pub each : AllByRecursion (IsRound def front f answers most) rounds
   pub taken : to ≤ from + rounds_work old rounds
 
--- The evaluations of a search: first those of the tree that keeps nothing, then those of rounds, of which there are one
--- more than blamed places. `first` counts those of the tree that keeps nothing, and `base` is the tree that the first
--- round is made beside.
+-- The evaluations of a search with these answers: first those of the tree that keeps nothing, then those of the rounds.
+-- `first` counts those of the tree that keeps nothing, and `base` is the tree that the first round is made beside.
 pub record IsSearch (def : Definition) (f : Fragment) (first : Fragment → ℕ) (base : Fragment → Fragment)
-    (most blamed from to : ℕ) : Type 0 where
+    (answers : List Bool) (most from to : ℕ) : Type 0 where
   pub names : Name
   pub middle : ℕ
   pub nothing : middle ≤ from + first (opened def (kept_in []) (new_name names) f)
-  pub rounds : AreRounds def names f (base (opened def (kept_in []) (new_name names) f)) most (1 + blamed) middle to
+  pub rounds : AreRounds def names f (base (opened def (kept_in []) (new_name names) f)) answers most middle to

@@ -1,5 +1,5 @@
 -- What the walks over a tree give whose places are opened.
-use Rattle.std.specs.Prelude.{ℕ, ◌≡◌, ◌+◌, Bool, true, false, cond, List, [], ◌∷◌, Option, Some, None, slice_get, Vec}
+use Rattle.std.specs.Prelude.{ℕ, ◌≡◌, ◌+◌, ◌<◌, ◌≤◌, Bool, true, false, cond, List, [], ◌∷◌, Option, Some, None, slice_get, Vec}
 use Rattle.std.specs.declared.alloc.Global.{Global}
 use Rattle.psg_terms.specs.Names.{Name as Word}
 use Rattle.psg_grammar.specs.declared.types.Definition.{Definition}
@@ -72,7 +72,17 @@ abbrev pub elements_size : Definition → Bool → List Fragment → ℕ
 elements_size def free [] = 0
 elements_size def free (e ∷ rest) = own_size def free e + elements_size def free rest
 
+-- an element of a list that may go on as it is, with how many places it has
+pub record IsAsItIs (def : Definition) (e : Fragment) (o : Opened) : Type 0 where
+  pub tree : o.tree ≡ e
+  pub declared : o.declared ≡ 0
+  pub others : o.others ≡ own_size def true e
+
 -- ---- the trees
+
+-- All places from the one number up to the other are kept.
+abbrev pub Keeps : (ℕ → Bool) → ℕ → ℕ → Type 0
+Keeps keep from to = (m : ℕ) → from ≤ m → m < to → keep m ≡ true
 
 -- the elements, and then the rest of their list
 abbrev pub cells : ℕ → List Fragment → Fragment → Fragment

@@ -8,7 +8,8 @@ ghost use Rattle.psg_grammar.specs.Legal.{IsCompletable};
 ghost use Rattle.psg_grammar.specs.Open.{IsOpen};
 ghost use Rattle.psg_grammar.specs.Sound.{IsSound};
 ghost use Rattle.psg_grammar.specs.Work.{work_of};
-ghost use Rattle.psg_places.specs.Answers.{AreRounds, IsBlame, IsBlameFault, IsNear, IsSearch, blamed_by, trials_work};
+ghost use Rattle.psg_places.specs.Answers.{AreRounds, IsBlame, IsBlameFault, IsNear, IsSearch, answers_by, blamed_by};
+ghost use Rattle.psg_places.specs.Answers.{trials_work};
 ghost use Rattle.psg_places.specs.Blame.{AreAllAnswers, blamed_in, kept_in, most_blamed, none_kept};
 ghost use Rattle.psg_places.specs.NewNames.{IsFront, new_name};
 ghost use Rattle.psg_places.specs.Opened.{opened};
@@ -72,7 +73,7 @@ pub fn blame<L: Ledger>(
     ensures fault { IfErr result (IsBlameFault definition.now tree.now) }
     // 2 ^ h is no less than the number of places
     ensures climbs { IfOk result (λ found. (h : ℕ) → place_count definition.now tree.now ≤ 2 ^ h
-        → IsSearch definition.now tree.now work_of (λ nothing. nothing) h (blamed_by found) steps.old steps.new) }
+        → IsSearch definition.now tree.now work_of (λ nothing. nothing) (answers_by found) h steps.old steps.new) }
     ensures trials { IfOk result (λ found. (h : ℕ) → place_count definition.now tree.now ≤ 2 ^ h
         → steps.new ≤ steps.old + trials_work (2 + blamed_by found * (1 + h)) (work_of tree.now)) }
     // whatever it answers
@@ -104,7 +105,7 @@ pub fn blame_noted<L: Ledger>(
     ensures fault { IfErr result (IsBlameFault definition.now tree.now) }
     // 2 ^ h is no less than the number of places
     ensures climbs { IfOk result (λ found. (h : ℕ) → place_count definition.now tree.now ≤ 2 ^ h
-        → IsSearch definition.now tree.now (diff_of tree.now) (λ nothing. tree.now) h (blamed_by found) steps.old
+        → IsSearch definition.now tree.now (diff_of tree.now) (λ nothing. tree.now) (answers_by found) h steps.old
         steps.new) }
     ensures trials { IfOk result (λ found. (h : ℕ) → place_count definition.now tree.now ≤ 2 ^ h
         → steps.new ≤ steps.old + trials_work (2 + blamed_by found * (1 + h)) (work_of tree.now)) }
@@ -138,7 +139,7 @@ fn searched<L: Ledger>(
     ensures fault { IfErr result (IsBlameFault definition.now tree.now) }
     ensures climbs { IfOk result (λ found. (h : ℕ) → place_count definition.now tree.now ≤ 2 ^ h → (middle : ℕ)
         × (middle ≤ steps.old + diff_of (tree_in old.now) (opened definition.now (kept_in []) (new_name front) tree.now))
-        × AreRounds definition.now front tree.now (tree_in old.now) h (1 + blamed_by found) middle steps.new) }
+        × AreRounds definition.now front tree.now (tree_in old.now) (answers_by found) h middle steps.new) }
     ensures trials { IfOk result (λ found. (h : ℕ) → place_count definition.now tree.now ≤ 2 ^ h
         → steps.new ≤ steps.old + (diff_of (tree_in old.now) (opened definition.now (kept_in []) (new_name front) tree.now)
         + trials_work (1 + blamed_by found * (1 + h)) (work_of tree.now))) }
@@ -202,8 +203,7 @@ fn answers<L: Ledger>(
         tree.now kept.items) }
     ensures fault { IfErr result (IsBlameFault definition.now tree.now) }
     ensures climbs { IfOk result (λ kept. (h : ℕ) → places ≤ 2 ^ h
-        → AreRounds definition.now front.now tree.now (tree_in old.now) h (1 + blamed_in kept.items) steps.old
-        steps.new) }
+        → AreRounds definition.now front.now tree.now (tree_in old.now) kept.items h steps.old steps.new) }
     ensures trials { IfOk result (λ kept. (h : ℕ) → places ≤ 2 ^ h
         → steps.new ≤ steps.old + trials_work (1 + blamed_in kept.items * (1 + h)) (work_of tree.now)) }
     // whatever it answers

@@ -228,7 +228,7 @@ pub(crate) fn next_found<L: Ledger>(
     ensures next { IfOk result (IsNextFound definition.now front.now tree.now kept.now) }
     ensures fault { IfErr result (IsBlameFault definition.now tree.now) }
     ensures round { IfOk result (λ found. (h : ℕ) → places ≤ 2 ^ h → (r : Round)
-        × IsRound definition.now front.now tree.now h r × (tree_in found.all ≡ r.all)
+        × IsRound definition.now front.now tree.now kept.now h r × (tree_in found.all ≡ r.all)
         × (steps.new ≤ steps.old + (diff_of (tree_in old.now) r.all + beside_work r.all r.fewer))) }
     ensures all { IfOk result (λ found. found.blamed ≡ false → steps.new ≤ steps.old + work_of tree.now) }
     // whatever it answers

@@ -29,6 +29,7 @@ mod numbers;
 mod opening;
 mod passing;
 mod place;
+mod sharing;
 mod trial;
 mod ways;
 mod words;

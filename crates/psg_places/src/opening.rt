@@ -5,10 +5,10 @@ ghost use Rattle.psg_places.specs.Openings as openings;
 ghost use Rattle.psg_places.specs.Openings.{IsKnown};
 ghost use Rattle.psg_places.specs.Blame.{kept_in};
 
-use crate::containing::free_contained;
 use crate::counting::{declared, goes_on, has_no_placeholder, is_declared, is_hole, phylum_at};
 use crate::fronts::new_name;
 use crate::numbers::{one_if, plus};
+use crate::sharing::{as_it_is, wholly_kept};
 use psg_grammar::Definition;
 use psg_terms::{Seq, Txt};
 use psg_tree::{Part, Shape, Tree};
@@ -272,7 +272,8 @@ fn open_child(
     Ok(node)
 }
 
-/// Opens an element of a list that may be unfinished, which is the place, as if it were kept.
+/// Opens an element of a list that may be unfinished, which is the place, as if it were kept. One that is wholly kept is
+/// shared.
 #[cycle(open)]
 fn open_free_element(
     alloc: Global,
@@ -283,6 +284,9 @@ fn open_free_element(
     requires known { IsKnown keeping }
     ensures { IfOk result (openings.IsOpenedFree keeping.entry place tree.now) }
 {
+    if let Some(whole) = wholly_kept(keeping, place, tree)? {
+        return Ok(whole);
+    }
     let first = plus(place, 1)?;
     if has_no_placeholder(keeping, tree) {
         let inner = open_both(alloc, keeping, first, tree)?;
@@ -324,20 +328,6 @@ fn open_element(
     }
 }
 
-/// Counts the places of an element that is left out. The tree in the answer is not used.
-fn left_out(keeping: Keeping, tree: &Tree) -> Result<Opened, AllocError>
-    requires known { IsKnown keeping }
-    ensures { IfOk result (λ o. (o.declared ≡ 0) × (o.others ≡ openings.own_size keeping.entry.definition.now true tree.now)) }
-{
-    let others = free_contained(keeping, tree)?;
-    let same = tree.share()?;
-    Ok(Opened {
-        tree: same,
-        declared: 0,
-        others,
-    })
-}
-
 /// Opens an element that stays. The places of one that is left out are counted.
 #[cycle(open)]
 fn open_member(
@@ -357,7 +347,7 @@ fn open_member(
         let element = open_element(alloc, keeping, free, above, place, tree)?;
         return Ok(element);
     }
-    let none = left_out(keeping, tree)?;
+    let none = as_it_is(keeping, tree)?;
     Ok(none)
 }
 
@@ -520,8 +510,9 @@ fn open_contents(
     }
 }
 
-/// Opens a whole tree: it returns the tree of the kept places, and how many places there are. It walks once over the
-/// tree, and twice over what declares.
+/// Opens a whole tree: it returns the tree of the kept places, and how many places there are. An element of a list that
+/// may be unfinished is shared where all its places are kept. The call walks over the tree once to make the rest, and
+/// once for each such list around a node to count its places.
 pub(crate) fn open(alloc: Global, keeping: Keeping, tree: &Tree) -> Result<Opened, AllocError>
     requires known { IsKnown keeping }
     ensures { IfOk result (openings.IsOpenedTree keeping.entry tree.now) }

@@ -2,10 +2,10 @@
 use Rattle.std.proofs.Common.{◌≡◌, ℕ, ℤ, List, Option, Some, None, refl, sym, ◌∙◌, ap}
 use Rattle.std.proofs.lemmas.Option.{none-some}
 use Rattle.psg_documents.specs.declared.encoding.Encoding.{Encoding}
-use Rattle.psg_grammar.specs.declared.types.Definition.{Definition}
 use Rattle.psg_grammar.specs.declared.types.Kind.{Kind}
 use Rattle.psg_messages.specs.Messages.{Said}
 use Rattle.psg_server.specs.declared.documents.Document.{Document}
+use Rattle.psg_server.specs.declared.judging.Defined.{Defined}
 use Rattle.psg_server.specs.declared.server.Server.{Server}
 use Rattle.psg_server.specs.Answering.{completes, completes_none, asks, asks_none, names, names_none, names_not}
 use Rattle.psg_server.specs.Answering.{Gets, Out, Serves, changes, changes_none, closes, closes_none, exits, formats, formats_none, greets, hovers, hovers_none, is_passed, is_refused, is_served, open_at, opens, opens_none, shuts_down}
@@ -32,7 +32,7 @@ pub named : (address : Option (List ℕ)) (documents : List Document) (d : Docum
 named None documents d e = absurd (none-some d e)
 named (Some a) documents d e = ap (λ (b : List ℕ). Some b) (sym (has_address a d (found_is (is_at a) documents d e)))
 
-module _ (def : Definition) (kind : Kind) where
+module _ (def : Defined) (kind : Kind) where
   served : (s : Said) (old : Server) (encoding : Encoding) (documents : List Document) (out : Out) (address : List ℕ)
       → Serves def kind old s encoding documents out → (named_by s ≡ Some address → ⊥)
       → document_at address documents ≡ document_at address old.documents

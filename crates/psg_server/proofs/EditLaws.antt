@@ -11,18 +11,18 @@ use Rattle.std.proofs.lemmas.Option.{slice_get-get_or, slice_get_within, unwrap_
 use Rattle.std.proofs.lemmas.Str.{IsUtf8-between}
 use Rattle.std.specs.Option.{unwrap_or}
 use Rattle.serde_json.specs.Data.{Data, array, item, no_items, null}
-use Rattle.psg_grammar.specs.declared.types.Definition.{Definition}
+use Rattle.psg_comments.specs.declared.finding.Comment.{Comment}
 use Rattle.psg_grammar.specs.declared.types.Kind.{Kind}
 use Rattle.psg_grammar.specs.Fragments.{Fragment}
 use Rattle.psg_program.specs.declared.fault.ProgramFault.{ProgramFault}
 use Rattle.psg_program.specs.declared.fault.ProgramFault.TheVariants.{Syntax}
 use Rattle.psg_program.specs.declared.fault.SyntaxError.{SyntaxError}
-use Rattle.psg_program.specs.Formatted.{formatted}
 use Rattle.psg_program.specs.Programs.{IsProgram, IsProgramFault}
 use Rattle.psg_documents.specs.declared.encoding.Encoding.{Encoding}
 use Rattle.psg_documents.specs.Positions.{IsLineStart, IsStop}
 use Rattle.psg_documents.proofs.StartLaws.{end_is_stop, stop_of_start}
-use Rattle.psg_server.specs.Edits.{HaveTail, IsEdit, IsFormatting, IsFront, IsTail, as_it_is, edit_data, no_program, one_edit}
+use Rattle.psg_server.specs.declared.judging.Defined.{Defined}
+use Rattle.psg_server.specs.Edits.{HaveTail, IsEdit, IsFormatting, IsFront, IsTail, IsWanted, as_it_is, edit_data, no_program, one_edit}
 use Rattle.psg_server.specs.Ranges.{IsRange}
 
 -- ---- the lines that two texts have at their beginning
@@ -340,22 +340,32 @@ edit_as encoding text bytes wanted ws new from to until range d b w utf8 front t
 
 -- ---- what formatting answers
 
-pub as_is : (def : Definition) (kind : Kind) (encoding : Encoding) (text own : List ℕ) (f : Fragment) (v : Data)
-    → own ≡ formatted def f → text ≡ own → v ≡ array no_items → IsProgram def kind text f
-    → IsFormatting def kind encoding text v
-as_is def kind encoding text own f v wanted same e program =
-    subst (λ (d : Data). IsFormatting def kind encoding text d) (sym e) (as_it_is f program (same ∙ wanted))
+module _ (def : Defined) (kind : Kind) (encoding : Encoding) (text : List ℕ) (comments : List Comment)
+    (judged : List ℕ) where
+  pub as_is : (own : List ℕ) (f : Fragment) (v : Data)
+      → IsWanted def.language def.comment text comments judged f own → text ≡ own → v ≡ array no_items
+      → IsProgram def.language kind judged f → IsFormatting def kind encoding text comments judged v
+  as_is own f v wanted same e program =
+      subst (λ (d : Data). IsFormatting def kind encoding text comments judged d) (sym e)
+      (as_it_is f program
+      (subst (λ (w : List ℕ). IsWanted def.language def.comment text comments judged f w) (sym same) wanted))
 
-pub one_is : (def : Definition) (kind : Kind) (encoding : Encoding) (text own : List ℕ) (f : Fragment) (d v : Data)
-    → own ≡ formatted def f → (text ≡ own → ⊥) → IsEdit encoding text own d → v ≡ array (item d no_items)
-    → IsProgram def kind text f → IsFormatting def kind encoding text v
-one_is def kind encoding text own f d v wanted other edit e program =
-    subst (λ (x : Data). IsFormatting def kind encoding text x) (sym e)
-    (one_edit f d program (λ same. other (same ∙ sym wanted))
-    (subst (λ (w : List ℕ). IsEdit encoding text w d) wanted edit))
+  pub one_is : (own : List ℕ) (f : Fragment) (d v : Data)
+      → IsWanted def.language def.comment text comments judged f own → (text ≡ own → ⊥) → IsEdit encoding text own d
+      → v ≡ array (item d no_items) → IsProgram def.language kind judged f
+      → IsFormatting def kind encoding text comments judged v
+  one_is own f d v wanted other edit e program =
+      subst (λ (x : Data). IsFormatting def kind encoding text comments judged x) (sym e)
+      (one_edit f own d program wanted other edit)
 
-pub none_is : (def : Definition) (kind : Kind) (encoding : Encoding) (text : List ℕ) (fault : ProgramFault) (e : SyntaxError)
-    (v : Data) → fault ≡ Syntax e → v ≡ null → IsProgramFault def kind text fault → IsFormatting def kind encoding text v
-none_is def kind encoding text fault e v is none faulty =
-    subst (λ (d : Data). IsFormatting def kind encoding text d) (sym none)
-    (no_program _ _ _ (subst (λ (x : ProgramFault). IsProgramFault def kind text x) is faulty))
+  pub none_is : (fault : ProgramFault) (e : SyntaxError) (v : Data) → fault ≡ Syntax e → v ≡ null
+      → IsProgramFault def.language kind judged fault → IsFormatting def kind encoding text comments judged v
+  none_is fault e v is none faulty =
+      subst (λ (d : Data). IsFormatting def kind encoding text comments judged d) (sym none)
+      (no_program _ _ _ (subst (λ (x : ProgramFault). IsProgramFault def.language kind judged x) is faulty))
+
+  pub wanted_as : (own text_own : List ℕ) (f : Fragment) → text_own ≡ own
+      → IsWanted def.language def.comment text comments judged f own
+      → IsWanted def.language def.comment text comments judged f text_own
+  wanted_as own text_own f e so =
+      subst (λ (w : List ℕ). IsWanted def.language def.comment text comments judged f w) (sym e) so

@@ -4,6 +4,7 @@ mod DocumentLaws
 mod EditLaws
 mod FieldLaws
 mod HoverLaws
+mod JudgingLaws
 mod LinkingLaws
 mod ServeLaws
 mod TextLaws

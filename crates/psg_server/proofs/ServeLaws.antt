@@ -9,7 +9,6 @@ use denote.Ref.{Bor}
 use Rattle.std.proofs.lemmas.Bool.{false≢true}
 use Rattle.std.proofs.lemmas.Option.{none-some}
 use Rattle.psg_documents.specs.declared.encoding.Encoding.{Encoding}
-use Rattle.psg_grammar.specs.declared.types.Definition.{Definition}
 use Rattle.psg_grammar.specs.declared.types.Kind.{Kind}
 use Rattle.psg_messages.specs.Messages.{Given, IsValueOf, Said, note, said}
 use Rattle.psg_messages.specs.Turns.{Due, due, due_of, phase_after, refused, served}
@@ -19,6 +18,7 @@ use Rattle.psg_messages.specs.declared.turns.Phase.{Phase}
 use Rattle.psg_messages.specs.declared.turns.Turn.{Turn}
 use Rattle.psg_messages.specs.declared.turns.Turn.TheVariants as turns
 use Rattle.psg_server.specs.declared.documents.Document.{Document}
+use Rattle.psg_server.specs.declared.judging.Defined.{Defined}
 use Rattle.psg_server.specs.declared.methods.Notice.TheVariants as notices
 use Rattle.psg_server.specs.declared.server.Server.{Server}
 use Rattle.psg_server.specs.Answering.{Answers, Gets, Out, Serves, changes, changes_none, closes, closes_none, open_at, open_in, opens, sent, silent}
@@ -29,7 +29,7 @@ use Rattle.psg_server.specs.Fields.{address_in, changed_in, opened_in}
 use Rattle.psg_server.specs.Kept.{IsClosed, IsKept, is_closed, was_closed}
 use Rattle.psg_server.specs.Methods.{is_known, notice_of}
 
-pub served_as : (def : Definition) (kind : Kind) (old : Server) (s : Said) (e1 e2 : Encoding) (d1 d2 : List Document) (o1 o2 : Out)
+pub served_as : (def : Defined) (kind : Kind) (old : Server) (s : Said) (e1 e2 : Encoding) (d1 d2 : List Document) (o1 o2 : Out)
     → e2 ≡ e1 → d2 ≡ d1 → o2 ≡ o1 → Serves def kind old s e1 d1 o1 → Serves def kind old s e2 d2 o2
 served_as def kind old s e1 e2 d1 d2 o1 o2 e d o so =
     subst (λ x. Serves def kind old s x d2 o2) (sym e)
@@ -43,7 +43,7 @@ pub none_of : (o : Option Document) → is_some o ≡ false → o ≡ None
 none_of None e = refl
 none_of (Some d) e = absurd (false≢true (sym e))
 
-pub opened_as : (def : Definition) (kind : Kind) (d : Document) (old new : Server) (out : Out) (method : List ℕ) (given : Given)
+pub opened_as : (def : Defined) (kind : Kind) (d : Document) (old new : Server) (out : Out) (method : List ℕ) (given : Given)
     → notice_of method ≡ Some notices.Opened → opened_in given ≡ Some d → IsKept def kind d old new out
     → Serves def kind old (note method given) new.encoding new.documents out
 opened_as def kind d old new out method given is told so =
@@ -59,7 +59,7 @@ none_mapped : (f : Document → Document) (o : Option Document) → None ≡ opt
 none_mapped f None e = refl
 none_mapped f (Some before) e = absurd (none-some (f before) e)
 
-pub changed_as : (def : Definition) (kind : Kind) (d : Document) (old new : Server) (out : Out) (method : List ℕ) (given : Given)
+pub changed_as : (def : Defined) (kind : Kind) (d : Document) (old new : Server) (out : Out) (method : List ℕ) (given : Given)
     → notice_of method ≡ Some notices.Changed → Some d ≡ option_map (changed_in given) (open_in given old.documents)
     → IsKept def kind d old new out → Serves def kind old (note method given) new.encoding new.documents out
 changed_as def kind d old new out method given is e kept =
@@ -69,13 +69,13 @@ changed_as def kind d old new out method given is e kept =
     served_as def kind old (note method given) old.encoding new.encoding new.documents new.documents (sent so.told) out
     so.encoding_is refl so.out_is (changes method given found.0 new.documents so.told is found.1 so.becomes so.published)
 
-pub unchanged_as : (def : Definition) (kind : Kind) (old : Server) (method : List ℕ) (given : Given)
+pub unchanged_as : (def : Defined) (kind : Kind) (old : Server) (method : List ℕ) (given : Given)
     → notice_of method ≡ Some notices.Changed → None ≡ option_map (changed_in given) (open_in given old.documents)
     → Serves def kind old (note method given) old.encoding old.documents silent
 unchanged_as def kind old method given is e =
     changes_none method given is (none_mapped (changed_in given) (open_in given old.documents) e)
 
-pub closed_as : (def : Definition) (kind : Kind) (address : List ℕ) (old new : Server) (out : Out) (method : List ℕ) (given : Given)
+pub closed_as : (def : Defined) (kind : Kind) (address : List ℕ) (old new : Server) (out : Out) (method : List ℕ) (given : Given)
     → notice_of method ≡ Some notices.Closed → address_in given ≡ Some address → IsClosed address old new out
     → Serves def kind old (note method given) new.encoding new.documents out
 closed_as def kind address old new out method given is named (was_closed none same quiet) =
@@ -90,7 +90,7 @@ pub closed_phase : (address : List ℕ) (old new : Server) (out : Out) → IsClo
 closed_phase address old new out (was_closed none same quiet) = ap (λ (s : Server). s.phase) same
 closed_phase address old new out (is_closed d there gone encoding phase told) = phase
 
-pub kept_as : (def : Definition) (kind : Kind) (d own : Document) (old new : Server) (out : Out) (value : Data) → own ≡ d
+pub kept_as : (def : Defined) (kind : Kind) (d own : Document) (old new : Server) (out : Out) (value : Data) → own ≡ d
     → Becomes own.address (Some own) old.documents new.documents → new.encoding ≡ old.encoding → new.phase ≡ old.phase
     → IsPublished def kind old.encoding own value → out ≡ sent value → IsKept def kind d old new out
 kept_as def kind d own old new out value e becomes encoding phase published told =
@@ -115,12 +115,12 @@ pub refused_due : (id : Option (Bor Value)) (fault : Fault)
 refused_due None fault = refl
 refused_due (Some id) fault = refl
 
-pub refused_as : (def : Definition) (kind : Kind) (old : Server) (s : Said) (out : Out) (id : Option Data) (fault : Fault)
+pub refused_as : (def : Defined) (kind : Kind) (old : Server) (s : Said) (out : Out) (id : Option Data) (fault : Fault)
     → due old.phase (is_known s) s ≡ refused id fault → out ≡ refusal id fault → Gets def kind old s old out
 refused_as def kind old s out id fault is e =
     subst (λ (o : Out). Gets def kind old s old o) (sym e) (is_refused id fault is)
 
-pub served_gets : (def : Definition) (kind : Kind) (old new : Server) (s : Said) (out : Out)
+pub served_gets : (def : Defined) (kind : Kind) (old new : Server) (s : Said) (out : Out)
     → due old.phase (is_known s) s ≡ served → Serves def kind old s new.encoding new.documents out
     → new.phase ≡ phase_after old.phase served s → Gets def kind old s new out
 served_gets def kind old new s out is so e =
@@ -146,12 +146,12 @@ pub value_is : (bytes : List ℕ) (o : Option Value) (v : Value)
 value_is bytes o v found e =
     subst (λ (x : Option Value). MatchOption x ((d : Data) → IsValueOf bytes d → ⊥) (λ w. IsValueOf bytes (view w))) e found
 
-pub none_answered : (def : Definition) (kind : Kind) (bytes : List ℕ) (old : Server) (out : Out)
+pub none_answered : (def : Defined) (kind : Kind) (bytes : List ℕ) (old : Server) (out : Out)
     → ((d : Data) → IsValueOf bytes d → ⊥) → out ≡ refusal None faults.NoJson → Answers def kind bytes old old out
 none_answered def kind bytes old out none e =
     subst (λ (o : Out). Answers def kind bytes old old o) (sym e) (no_json none)
 
-pub json_as : (def : Definition) (kind : Kind) (bytes : List ℕ) (old new : Server) (out : Out) (d : Data) (s : Said)
+pub json_as : (def : Defined) (kind : Kind) (bytes : List ℕ) (old new : Server) (out : Out) (d : Data) (s : Said)
     → IsValueOf bytes d → s ≡ said d → Gets def kind old s new out → Answers def kind bytes old new out
 json_as def kind bytes old new out d s is e gets =
     json d new out is (subst (λ (t : Said). Gets def kind old t new out) e gets)

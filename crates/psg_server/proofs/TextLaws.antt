@@ -7,11 +7,11 @@ use Rattle.std.proofs.lemmas.Bool.{false≢true}
 use Rattle.std.proofs.lemmas.Option.{none-some}
 use Rattle.std.proofs.lemmas.Slice.Eq.{bytes_eq-Decides}
 use Rattle.psg_documents.specs.declared.encoding.Encoding.{Encoding}
-use Rattle.psg_grammar.specs.declared.types.Definition.{Definition}
 use Rattle.psg_grammar.specs.declared.types.Kind.{Kind}
 use Rattle.psg_messages.specs.Messages.{Given, Said}
 use Rattle.psg_messages.specs.Turns.{due, served}
 use Rattle.psg_server.specs.declared.documents.Document.{Document}
+use Rattle.psg_server.specs.declared.judging.Defined.{Defined}
 use Rattle.psg_server.specs.declared.methods.Notice.{Notice}
 use Rattle.psg_server.specs.declared.server.Server.{Server}
 use Rattle.psg_server.specs.Answering.{completes, completes_none, asks, asks_none, names, names_none, names_not}
@@ -88,7 +88,7 @@ as_word : (address : List ℕ) (before : Option (List ℕ)) (one other : Option 
 as_word address before one other documents e so =
     subst (λ (w : Option (Option (List ℕ))). Agrees address (unwrap_or w before) documents) (sym e) so
 
-module _ (def : Definition) (kind : Kind) where
+module _ (def : Defined) (kind : Kind) where
   row : (address : List ℕ) (before : Option (List ℕ)) (s : Said) (old : Server) (encoding : Encoding)
       (documents : List Document) (out : Out) → Serves def kind old s encoding documents out
       → Agrees address before old.documents → Agrees address (unwrap_or (word_of address s) before) documents

@@ -8,7 +8,6 @@ use Rattle.serde_json.specs.View.{view}
 use Rattle.serde_json.specs.declared.value.Value.{Value}
 use Rattle.psg_documents.specs.declared.encoding.Encoding.{Encoding}
 use Rattle.psg_documents.specs.declared.lines.Position.{Position}
-use Rattle.psg_grammar.specs.declared.types.Definition.{Definition}
 use Rattle.psg_grammar.specs.declared.types.Kind.{Kind}
 use Rattle.psg_messages.specs.Answers.{answer_of, refusal_of}
 use Rattle.psg_messages.specs.Messages.{Given, IsValueOf, Said, note, request, said}
@@ -16,7 +15,8 @@ use Rattle.psg_messages.specs.Turns.{due, passed, phase_after, refused, served, 
 use Rattle.psg_messages.specs.declared.turns.Fault.{Fault}
 use Rattle.psg_messages.specs.declared.turns.Fault.TheVariants as faults
 use Rattle.psg_server.specs.declared.documents.Document.{Document}
-use Rattle.psg_server.specs.declared.linking.Unnamed.{Unnamed}
+use Rattle.psg_server.specs.declared.judging.Defined.{Defined}
+use Rattle.psg_server.specs.declared.renaming.Unnamed.{Unnamed}
 use Rattle.psg_server.specs.declared.methods.Ask.{Ask}
 use Rattle.psg_server.specs.declared.methods.Call.TheVariants as calls
 use Rattle.psg_server.specs.declared.methods.Notice.TheVariants as notices
@@ -83,7 +83,7 @@ place_by (Some d) (Some position) = Some (record { document = d; position = posi
 abbrev pub place_in : Given → List Document → Option Place
 place_in given documents = place_by (open_in given documents) (position_in given)
 
-module _ (def : Definition) (kind : Kind) where
+module _ (def : Defined) (kind : Kind) where
   -- What is served: the encoding and the documents then, and what follows from it. What is published of a document is
   -- made of its text alone, so no older one can be shown.
   pub data Serves (old : Server) : Said → Encoding → List Document → Out → Type 0 where

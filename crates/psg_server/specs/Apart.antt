@@ -1,8 +1,8 @@
 -- A document that a message does not name is the same after it, and no two documents have one address.
 use Rattle.std.specs.Prelude.{ℕ, ◌≡◌, List, Option, Some, None}
-use Rattle.psg_grammar.specs.declared.types.Definition.{Definition}
 use Rattle.psg_grammar.specs.declared.types.Kind.{Kind}
 use Rattle.psg_messages.specs.Messages.{Said, answer, note, request, wrong}
+use Rattle.psg_server.specs.declared.judging.Defined.{Defined}
 use Rattle.psg_server.specs.declared.server.Server.{Server}
 use Rattle.psg_server.specs.Answering.{Gets, Out}
 use Rattle.psg_server.specs.Documents.{AreApart, document_at}
@@ -15,10 +15,10 @@ named_by (note method given) = address_in given
 named_by answer = None
 named_by (wrong id) = None
 
-abbrev pub KeepsOthers : Definition → Kind → Type 0
+abbrev pub KeepsOthers : Defined → Kind → Type 0
 KeepsOthers def kind = (s : Said) (old new : Server) (out : Out) (address : List ℕ) → Gets def kind old s new out
     → (named_by s ≡ Some address → ⊥) → document_at address new.documents ≡ document_at address old.documents
 
-abbrev pub KeepsApart : Definition → Kind → Type 0
+abbrev pub KeepsApart : Defined → Kind → Type 0
 KeepsApart def kind = (s : Said) (old new : Server) (out : Out) → Gets def kind old s new out → AreApart old.documents
     → AreApart new.documents

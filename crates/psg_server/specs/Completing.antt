@@ -1,9 +1,11 @@
 -- What may be put in place of the word at a position of a document.
-use Rattle.std.specs.Prelude.{ℕ, ◌≡◌, ◌≤◌, ◌-◌, ◌++◌, Bool, List, [], ◌∷◌, codes}
+use Rattle.std.specs.Prelude.{ℕ, ◌≡◌, ◌≤◌, ◌-◌, ◌++◌, Bool, true, false, cond, List, [], ◌∷◌, codes}
 use Rattle.std.specs.Prelude.{drop, length, take, Option, Some, None}
 use Rattle.std.specs.Str.{IsUtf8}
 use Rattle.serde_json.specs.Data.{Data, array, boolean, null, string, object, member, no_members}
 use Rattle.serde_json.specs.View.{items_of}
+use Rattle.psg_comments.specs.Blanking.{is_inside}
+use Rattle.psg_comments.specs.declared.finding.Comment.{Comment}
 use Rattle.psg_documents.specs.declared.encoding.Encoding.{Encoding}
 use Rattle.psg_documents.specs.declared.lines.Position.{Position}
 use Rattle.psg_documents.specs.Positions.{IsByteOf}
@@ -12,7 +14,9 @@ use Rattle.psg_grammar.specs.declared.types.Kind.{Kind}
 use Rattle.psg_completing.specs.declared.completing.Completion.{Completion}
 use Rattle.psg_completing.specs.declared.offering.Entry.{Entry}
 use Rattle.psg_completing.specs.Offering.{IsCompletion}
+use Rattle.psg_server.specs.declared.judging.Defined.{Defined}
 use Rattle.psg_server.specs.Edits.{edit_data}
+use Rattle.psg_server.specs.Judging.{OfAsked, is_within, own_byte}
 use Rattle.psg_server.specs.Ranges.{IsRange}
 
 -- what an entry writes, with what is around it
@@ -65,16 +69,31 @@ pub record IsCompletionValue (encoding : Encoding) (text : List ℕ) (c : Comple
   pub are : AreItems encoding text c filter c.entries.items items
   pub is : d ≡ list_data c.incomplete items
 
--- what may be put in place of the word at the position
-pub record IsCompletedAt (def : Definition) (kind : Kind) (encoding : Encoding) (text : List ℕ) (position : Position)
+-- what is put, with a space after it where a comment begins right after the word: so it does not run together with the
+-- token of comments
+abbrev pub spaced : List ℕ → List Comment → Completion → Completion
+spaced text comments c =
+    cond (is_inside comments (own_byte text c.to)) (record c { behind = c.behind ++ 32 ∷ [] }) c
+
+-- What may be put in place of the word at a byte, by what is judged of the text: nothing in a comment.
+pub data IsCompletedAt (def : Definition) (kind : Kind) (encoding : Encoding) (text : List ℕ) (comments : List Comment)
+    (judged : List ℕ) (byte : ℕ) (d : Data) : Type 0 where
+  completed_in_comment : is_within comments (own_byte text byte) ≡ true → d ≡ null
+      → IsCompletedAt def kind encoding text comments judged byte d
+  completed_there : (completion : Completion) → is_within comments (own_byte text byte) ≡ false
+      → IsCompletion def kind judged byte completion
+      → IsCompletionValue encoding text (spaced text comments completion) d
+      → IsCompletedAt def kind encoding text comments judged byte d
+
+-- What may be put in place of the word at the position.
+pub record IsCompletedOf (def : Defined) (kind : Kind) (encoding : Encoding) (text : List ℕ) (position : Position)
     (d : Data) : Type 0 where
   pub byte : ℕ
   pub is_byte : IsByteOf encoding text position.line position.column byte
-  pub completion : Completion
-  pub completed : IsCompletion def kind text byte completion
-  pub is : IsCompletionValue encoding text completion d
+  pub asked : OfAsked def text byte (λ comments judged.
+      IsCompletedAt def.language kind encoding text comments judged byte d)
 
 -- Of a text that is not known: nothing.
-abbrev pub IsCompletedIn : Definition → Kind → Encoding → Option (List ℕ) → Position → Data → Type 0
+abbrev pub IsCompletedIn : Defined → Kind → Encoding → Option (List ℕ) → Position → Data → Type 0
 IsCompletedIn def kind encoding None position d = d ≡ null
-IsCompletedIn def kind encoding (Some text) position d = IsCompletedAt def kind encoding text position d
+IsCompletedIn def kind encoding (Some text) position d = IsCompletedOf def kind encoding text position d

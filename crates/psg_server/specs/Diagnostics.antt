@@ -15,6 +15,8 @@ use Rattle.psg_recover.specs.declared.finding.Finding.{Finding}
 use Rattle.psg_recover.specs.declared.finding.Grade.{Grade}
 use Rattle.psg_recover.specs.declared.finding.Grade.TheVariants as grades
 use Rattle.psg_server.specs.declared.documents.Document.{Document}
+use Rattle.psg_server.specs.declared.judging.Defined.{Defined}
+use Rattle.psg_server.specs.Judging.{OfJudged}
 use Rattle.psg_server.specs.Ranges.{IsRange}
 
 -- an error, a warning, and a hint
@@ -79,15 +81,15 @@ abbrev pub publish_data : (address : List ℕ) (version : ℤ) (diagnostics : Li
 publish_data address version diagnostics =
     note_of (codes "textDocument/publishDiagnostics") (publish_params address version diagnostics)
 
--- The note says what is found in a text, which is to be a program of the kind.
+-- The note says what is found in what is judged of a text, which is to be a program of the kind, at its places in the
+-- text.
 pub record IsReported (def : Definition) (kind : Kind) (encoding : Encoding) (address : List ℕ) (version : ℤ)
-    (text : List ℕ)
-    (told : Data) : Type 0 where
-  pub judged : List ℕ
+    (text judged : List ℕ) (told : Data) : Type 0 where
+  pub part : List ℕ
   pub limited : Bool
   pub found : List Finding
   pub more : Bool
-  pub report : IsReport def kind text judged limited found more
+  pub report : IsReport def kind judged part limited found more
   pub diagnostics : List Data
   pub are : AreDiagnostics encoding text found more diagnostics
   pub is : told ≡ publish_data address version diagnostics
@@ -101,11 +103,11 @@ abbrev pub cleared_data : List ℕ → Data
 cleared_data address = note_of (codes "textDocument/publishDiagnostics") (cleared_params address)
 
 -- what is published of a text, and where the text is not known
-abbrev pub IsPublishedOf : Definition → Kind → Encoding → List ℕ → ℤ → Option (List ℕ) → Data → Type 0
+abbrev pub IsPublishedOf : Defined → Kind → Encoding → List ℕ → ℤ → Option (List ℕ) → Data → Type 0
 IsPublishedOf def kind encoding address version None told = told ≡ cleared_data address
 IsPublishedOf def kind encoding address version (Some text) told =
-    IsReported def kind encoding address version text told
+    OfJudged def text (λ comments judged. IsReported def.language kind encoding address version text judged told)
 
 -- what is published of a document
-abbrev pub IsPublished : Definition → Kind → Encoding → Document → Data → Type 0
+abbrev pub IsPublished : Defined → Kind → Encoding → Document → Data → Type 0
 IsPublished def kind encoding d told = IsPublishedOf def kind encoding d.address d.version d.text told

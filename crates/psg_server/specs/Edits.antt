@@ -1,13 +1,23 @@
 -- The text that a document is to have, as an edit.
 use Rattle.std.specs.Prelude.{ℕ, ◌≡◌, ◌<◌, ◌≤◌, ◌++◌, List, length, take, drop, Option, Some, None, codes}
 use Rattle.serde_json.specs.Data.{Data, null, array, no_items, item, string, object, member, no_members}
+use Rattle.psg_terms.specs.Names.{Name}
+use Rattle.psg_comments.specs.declared.finding.Comment.{Comment}
+use Rattle.psg_commented.specs.Keeping.{IsWithComments}
+use Rattle.psg_class.specs.Texts.{TextTokens}
 use Rattle.psg_documents.specs.declared.encoding.Encoding.{Encoding}
 use Rattle.psg_documents.specs.Positions.{IsLineStart, IsStop}
 use Rattle.psg_grammar.specs.declared.types.Definition.{Definition}
 use Rattle.psg_grammar.specs.declared.types.Kind.{Kind}
 use Rattle.psg_grammar.specs.Fragments.{Fragment}
+use Rattle.psg_grammar.specs.WellFormed.{fixed_words}
+use Rattle.psg_lexis.specs.declared.token.Spanned.{Spanned}
+use Rattle.psg_program.specs.Decoding.{unmarked}
 use Rattle.psg_program.specs.Formatted.{formatted}
 use Rattle.psg_program.specs.Programs.{IsFaulty, IsProgram}
+use Rattle.psg_unparse.specs.Layout.{text_of}
+use Rattle.psg_server.specs.declared.judging.Defined.{Defined}
+use Rattle.psg_server.specs.Judging.{OfJudged}
 use Rattle.psg_server.specs.Ranges.{IsRange}
 
 abbrev pub edit_data : Data → List ℕ → Data
@@ -56,16 +66,30 @@ pub record IsEdit (encoding : Encoding) (text wanted : List ℕ) (d : Data) : Ty
   pub is_range : IsRange encoding text from to range
   pub is : d ≡ edit_data range new
 
--- What formatting answers: nothing where the text is no program, no edit where it is as it is to be, and else one edit.
-pub data IsFormatting (def : Definition) (kind : Kind) (encoding : Encoding) (text : List ℕ) : Data → Type 0 where
-  no_program : (line column : ℕ) (message : List ℕ) → IsFaulty def kind text line column message
-      → IsFormatting def kind encoding text null
-  as_it_is : (f : Fragment) → IsProgram def kind text f → text ≡ formatted def f
-      → IsFormatting def kind encoding text (array no_items)
-  one_edit : (f : Fragment) (d : Data) → IsProgram def kind text f → (text ≡ formatted def f → ⊥)
-      → IsEdit encoding text (formatted def f) d → IsFormatting def kind encoding text (array (item d no_items))
+-- What the text is to be, where it is this program without these comments: the printed text of the program, and a line
+-- feed. In a language with comments the comments are in it.
+abbrev pub IsWanted : Definition → Option Name → List ℕ → List Comment → List ℕ → Fragment → List ℕ → Type 0
+IsWanted def None text comments judged f wanted = wanted ≡ formatted def f
+IsWanted def (Some token) text comments judged f wanted =
+    (ts : List Spanned) × TextTokens def (unmarked judged) ts
+    × IsWithComments (fixed_words def) token (unmarked text) ts comments (text_of def f) wanted
+
+-- What formatting answers: nothing where the text without its comments is no program, no edit where the text is as it is
+-- to be, and else one edit.
+pub data IsFormatting (def : Defined) (kind : Kind) (encoding : Encoding) (text : List ℕ) (comments : List Comment)
+    (judged : List ℕ) : Data → Type 0 where
+  no_program : (line column : ℕ) (message : List ℕ) → IsFaulty def.language kind judged line column message
+      → IsFormatting def kind encoding text comments judged null
+  as_it_is : (f : Fragment) → IsProgram def.language kind judged f
+      → IsWanted def.language def.comment text comments judged f text
+      → IsFormatting def kind encoding text comments judged (array no_items)
+  one_edit : (f : Fragment) (wanted : List ℕ) (d : Data) → IsProgram def.language kind judged f
+      → IsWanted def.language def.comment text comments judged f wanted → (text ≡ wanted → ⊥)
+      → IsEdit encoding text wanted d
+      → IsFormatting def kind encoding text comments judged (array (item d no_items))
 
 -- Of a text that is not known: nothing.
-abbrev pub IsFormattingOf : Definition → Kind → Encoding → Option (List ℕ) → Data → Type 0
+abbrev pub IsFormattingOf : Defined → Kind → Encoding → Option (List ℕ) → Data → Type 0
 IsFormattingOf def kind encoding None d = d ≡ null
-IsFormattingOf def kind encoding (Some text) d = IsFormatting def kind encoding text d
+IsFormattingOf def kind encoding (Some text) d =
+    OfJudged def text (λ comments judged. IsFormatting def kind encoding text comments judged d)

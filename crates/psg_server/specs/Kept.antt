@@ -1,16 +1,16 @@
 -- What becomes of a document that a note names.
 use Rattle.std.specs.Prelude.{ℕ, ◌≡◌, List, Some, None}
 use Rattle.serde_json.specs.Data.{Data}
-use Rattle.psg_grammar.specs.declared.types.Definition.{Definition}
 use Rattle.psg_grammar.specs.declared.types.Kind.{Kind}
 use Rattle.psg_server.specs.declared.documents.Document.{Document}
+use Rattle.psg_server.specs.declared.judging.Defined.{Defined}
 use Rattle.psg_server.specs.declared.server.Server.{Server}
 use Rattle.psg_server.specs.Answering.{Out, sent, silent}
 use Rattle.psg_server.specs.Diagnostics.{IsPublished, cleared_data}
 use Rattle.psg_server.specs.Documents.{Becomes, document_at}
 
 -- it is kept, and what is found in it is sent
-pub record IsKept (def : Definition) (kind : Kind) (d : Document) (old new : Server) (out : Out) : Type 0 where
+pub record IsKept (def : Defined) (kind : Kind) (d : Document) (old new : Server) (out : Out) : Type 0 where
   pub becomes : Becomes d.address (Some d) old.documents new.documents
   pub encoding_is : new.encoding ≡ old.encoding
   pub phase_is : new.phase ≡ old.phase

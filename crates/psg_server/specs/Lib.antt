@@ -7,6 +7,7 @@ pub mod Documents
 pub mod Edits
 pub mod Hovering
 pub mod Fields
+pub mod Judging
 pub mod Kept
 pub mod Linking
 pub mod Methods

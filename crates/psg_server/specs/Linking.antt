@@ -1,7 +1,7 @@
 -- What is answered of the name at a position of a document: where it is declared, where the names are that are together
 -- with it, and the edits that give them a new name.
-use Rattle.std.specs.Prelude.{ℕ, ◌≡◌, ◌-◌, ◌||◌, Bool, true, false, cond, not, List}
-use Rattle.std.specs.Prelude.{[], ◌∷◌, length, Option, Some, None, Vec, codes}
+use Rattle.std.specs.Prelude.{ℕ, ◌≡◌, ◌||◌, Bool, true, false, cond, not, List}
+use Rattle.std.specs.Prelude.{[], ◌∷◌, Option, Some, None, Vec, codes}
 use Rattle.std.specs.declared.alloc.Global.{Global}
 use Rattle.std.specs.declared.result.Result.TheVariants.{Ok, Err}
 use Rattle.serde_json.specs.Data.{Data, null, array, number, unsigned, string, object, member, no_members}
@@ -22,15 +22,17 @@ use Rattle.psg_links.specs.Spots.{IsLinkedAt, IsPage}
 use Rattle.psg_program.specs.Decoding.{unmarked}
 use Rattle.psg_program.specs.Programs.{IsProgram}
 use Rattle.psg_ranges.specs.Forests.{Forest, ranges_in}
+use Rattle.psg_server.specs.declared.judging.Defined.{Defined}
 use Rattle.psg_server.specs.declared.linking.Showing.{Showing}
 use Rattle.psg_server.specs.declared.linking.Showing.TheVariants as shows
-use Rattle.psg_server.specs.declared.linking.Unnamed.{Unnamed}
-use Rattle.psg_server.specs.declared.linking.Unnamed.TheVariants as reasons
 use Rattle.psg_server.specs.declared.methods.Ask.{Ask}
 use Rattle.psg_server.specs.declared.methods.Ask.TheVariants as asks
+use Rattle.psg_server.specs.declared.renaming.Unnamed.{Unnamed}
+use Rattle.psg_server.specs.declared.renaming.Unnamed.TheVariants as reasons
 use Rattle.psg_server.specs.Diagnostics.{byte_in}
 use Rattle.psg_server.specs.Edits.{edit_data}
 use Rattle.psg_server.specs.Fields.{Renamed}
+use Rattle.psg_server.specs.Judging.{OfJudged, own_byte}
 use Rattle.psg_server.specs.Ranges.{IsRange}
 
 -- ---- names, as values
@@ -91,28 +93,24 @@ module _ (encoding : Encoding) (text : List ℕ) where
 
 -- ---- what is at a position
 
--- the byte of what was read, which is after a byte order mark
-abbrev pub own_byte : List ℕ → ℕ → ℕ
-own_byte text byte = byte - (length text - length (unmarked text))
-
 -- the byte is that of the position
 pub record IsThere (encoding : Encoding) (text : List ℕ) (at : Position) (byte : ℕ) : Type 0 where
   pub there : ℕ
   pub position : IsByteOf encoding text at.line at.column there
   pub is : byte ≡ own_byte text there
 
-module _ (def : Definition) (kind : Kind) (encoding : Encoding) (text : List ℕ) (at : Position) where
-  -- a reading of the text, and the byte of the position in it
+module _ (def : Definition) (kind : Kind) (encoding : Encoding) (text judged : List ℕ) (at : Position) where
+  -- a reading of what is judged of the text, and the byte of the position in it
   pub record IsRead (p : Page) (f : Forest) (byte : ℕ) : Type 0 where
-    pub page : IsPage def kind text p
+    pub page : IsPage def kind judged p
     pub nodes : ranges_in f ≡ p.ranges.nodes
     pub place : IsThere encoding text at byte
 
-  -- the name at the position, if there is one
+  -- the name at the position, if there is one: a comment has none
   pub data IsFound : Option Linked → Type 0 where
     in_program : (p : Page) (f : Forest) (byte : ℕ) (a : Option Linked) → IsRead p f byte
         → IsLinkedAt p.tokens.items f p.links.items byte a → IsFound a
-    no_program : ((f : Fragment) → IsProgram def kind text f → ⊥) → IsFound None
+    no_program : ((f : Fragment) → IsProgram def kind judged f → ⊥) → IsFound None
 
 -- ---- answers
 
@@ -133,16 +131,18 @@ module _ (encoding : Encoding) (text address : List ℕ) where
   IsReply ask all None d = d ≡ null
   IsReply ask all (Some a) d = IsReplyOf ask all a d
 
-  -- where the text is known
-  pub record IsReplied (def : Definition) (kind : Kind) (ask : Ask) (all : Bool) (at : Position)
+  -- by what is judged of the text
+  pub record IsReplied (def : Definition) (kind : Kind) (judged : List ℕ) (ask : Ask) (all : Bool) (at : Position)
       (d : Data) : Type 0 where
     pub linked : Option Linked
-    pub found : IsFound def kind encoding text at linked
+    pub found : IsFound def kind encoding text judged at linked
     pub is : IsReply ask all linked d
 
-abbrev pub IsRepliedOf : Definition → Kind → Encoding → List ℕ → Option (List ℕ) → Ask → Bool → Position → Data → Type 0
+-- of a text that is not known: null
+abbrev pub IsRepliedOf : Defined → Kind → Encoding → List ℕ → Option (List ℕ) → Ask → Bool → Position → Data → Type 0
 IsRepliedOf def kind encoding address None ask all at d = d ≡ null
-IsRepliedOf def kind encoding address (Some text) ask all at d = IsReplied encoding text address def kind ask all at d
+IsRepliedOf def kind encoding address (Some text) ask all at d =
+    OfJudged def text (λ comments judged. IsReplied encoding text address def.language kind judged ask all at d)
 
 -- ---- new names
 
@@ -160,30 +160,32 @@ abbrev pub workspace_data : List ℕ → List Data → Data
 workspace_data address edits =
     object (member (codes "changes") (object (member address (array (items_of edits)) no_members)) no_members)
 
-module _ (def : Definition) (kind : Kind) (encoding : Encoding) (address text : List ℕ) (r : Renamed) where
+module _ (def : Definition) (kind : Kind) (encoding : Encoding) (address text judged : List ℕ) (r : Renamed) where
   -- the edits that give the names the new one
   pub record IsNamed (d : Data) : Type 0 where
     pub page : Page
     pub forest : Forest
     pub byte : ℕ
-    pub read : IsRead def kind encoding text r.at page forest byte
+    pub read : IsRead def kind encoding text judged r.at page forest byte
     pub spots : Vec Spot Global
-    pub answer : IsAnswer def kind (unmarked text) page.tokens.items forest page.links.items byte r.name (Ok spots)
+    pub answer : IsAnswer def kind (unmarked judged) page.tokens.items forest page.links.items byte r.name (Ok spots)
     pub edits : List Data
     pub are : AreShown encoding text (as_edit r.name) true spots.items edits
     pub is : d ≡ workspace_data address edits
 
   -- why they get no new name
   pub data IsUnnamed : Unnamed → Type 0 where
-    reads_none : ((f : Fragment) → IsProgram def kind text f → ⊥) → IsUnnamed reasons.NoProgram
-    refuses : (p : Page) (f : Forest) (byte : ℕ) (why : Refusal) → IsRead def kind encoding text r.at p f byte
-        → IsAnswer def kind (unmarked text) p.tokens.items f p.links.items byte r.name (Err why)
+    reads_none : ((f : Fragment) → IsProgram def kind judged f → ⊥) → IsUnnamed reasons.NoProgram
+    refuses : (p : Page) (f : Forest) (byte : ℕ) (why : Refusal) → IsRead def kind encoding text judged r.at p f byte
+        → IsAnswer def kind (unmarked judged) p.tokens.items f p.links.items byte r.name (Err why)
         → IsUnnamed (reasons.Refused why)
 
-abbrev pub IsNamedOf : Definition → Kind → Encoding → List ℕ → Option (List ℕ) → Renamed → Data → Type 0
+abbrev pub IsNamedOf : Defined → Kind → Encoding → List ℕ → Option (List ℕ) → Renamed → Data → Type 0
 IsNamedOf def kind encoding address None r d = ⊥
-IsNamedOf def kind encoding address (Some text) r d = IsNamed def kind encoding address text r d
+IsNamedOf def kind encoding address (Some text) r d =
+    OfJudged def text (λ comments judged. IsNamed def.language kind encoding address text judged r d)
 
-abbrev pub IsUnnamedOf : Definition → Kind → Encoding → List ℕ → Option (List ℕ) → Renamed → Unnamed → Type 0
+abbrev pub IsUnnamedOf : Defined → Kind → Encoding → List ℕ → Option (List ℕ) → Renamed → Unnamed → Type 0
 IsUnnamedOf def kind encoding address None r why = why ≡ reasons.Unknown
-IsUnnamedOf def kind encoding address (Some text) r why = IsUnnamed def kind encoding address text r why
+IsUnnamedOf def kind encoding address (Some text) r why =
+    OfJudged def text (λ comments judged. IsUnnamed def.language kind encoding address text judged r why)

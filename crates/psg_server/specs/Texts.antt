@@ -3,11 +3,11 @@ use Rattle.std.specs.Prelude.{ℕ, ◌≡◌, List, [], ◌∷◌, Option, Some,
 use Rattle.std.specs.Option.{option_map}
 use Rattle.std.specs.Str.{bytes_eq}
 use Rattle.serde_json.specs.Data.{Items}
-use Rattle.psg_grammar.specs.declared.types.Definition.{Definition}
 use Rattle.psg_grammar.specs.declared.types.Kind.{Kind}
 use Rattle.psg_messages.specs.Messages.{Given, Said, answer, note, request, wrong}
 use Rattle.psg_messages.specs.Turns.{due, served}
 use Rattle.psg_server.specs.declared.documents.Document.{Document}
+use Rattle.psg_server.specs.declared.judging.Defined.{Defined}
 use Rattle.psg_server.specs.declared.methods.Notice.{Notice}
 use Rattle.psg_server.specs.declared.methods.Notice.TheVariants as notices
 use Rattle.psg_server.specs.declared.server.Server.{Server}
@@ -52,7 +52,7 @@ last_word address before (s ∷ messages) = last_word address (unwrap_or (word_o
 
 -- ---- the law
 
-module _ (def : Definition) (kind : Kind) where
+module _ (def : Defined) (kind : Kind) where
   -- Messages are read one after the other, from one server to another. Those that are served are listed.
   pub data Comes : Server → List Said → Server → Type 0 where
     no_more : (old : Server) → Comes old [] old

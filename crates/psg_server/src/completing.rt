@@ -1,10 +1,13 @@
 //! What may be put in place of the word at a position of a document.
-ghost use Rattle.std.specs.Prelude.{ℕ, ◌≡◌, ◌++◌, ◌≤◌, ◌-◌, IfNone, IfOk, IfSome, List};
+ghost use Rattle.std.specs.Prelude.{ℕ, ◌≡◌, ◌++◌, ◌∷◌, [], ◌≤◌, ◌-◌, IfNone, IfOk, IfSome, List};
 ghost use Rattle.std.specs.Prelude.{Some, drop, length, map, string_bytes, take};
 ghost use Rattle.serde_json.specs.View.{view};
 ghost use Rattle.psg_documents.specs.Positions.{AreStarts};
+ghost use Rattle.psg_defcomment.specs.Reading.{IsCommentOf};
+ghost use Rattle.psg_grammar.specs.WellFormed.{fixed_words};
 ghost use Rattle.psg_server.specs.Completing as completed;
-ghost use Rattle.psg_server.specs.Completing.{IsCompletedAt, IsCompletedIn, IsCompletionValue, IsTextBetween};
+ghost use Rattle.psg_server.specs.Completing.{IsCompletedAt, IsCompletedIn, IsCompletedOf, IsCompletionValue};
+ghost use Rattle.psg_server.specs.Completing.{IsTextBetween};
 ghost use Rattle.psg_server.specs.Edits.{edit_data};
 ghost use Rattle.psg_messages.specs.Messages.{given_of, request};
 ghost use Rattle.psg_server.specs.declared.methods.Call.TheVariants as calls;
@@ -13,6 +16,7 @@ ghost use Rattle.psg_server.specs.Methods.{call_of};
 
 use crate::documents::Document;
 use crate::edits::{edit_of, null_value};
+use crate::judging::{Defined, Judged, asked_text, is_comment, is_commenting};
 use crate::ranges::{Page, range_value};
 use crate::server::{Reply, Server, answered, refused};
 use psg_completing::{Completion, Entry, completion_at};
@@ -20,7 +24,7 @@ use psg_documents::{Encoding, Lines, Position};
 use psg_grammar::Kind;
 use psg_messages::{Fault, Params};
 use psg_specimen::Language;
-use psg_terms::Steps;
+use psg_terms::{Steps, Txt};
 use serde_json::{Value, json};
 use std::alloc::{AllocError, Global};
 use std::sync::ledger::Ledger;
@@ -145,17 +149,84 @@ fn completion_value(
     Ok(list)
 }
 
-/// Returns what may be put in place of the word at the position of a text.
+/// Returns the text with a space after it.
+fn with_space(alloc: Global, text: &str) -> Result<Txt, AllocError>
+    ensures { IfOk result (λ put. put ≡ text.now ++ 32 ∷ []) }
+{
+    let mut put = String::from_str(alloc, text)?;
+    put.push(' ')?;
+    let own = Txt::of(alloc, put)?;
+    Ok(own)
+}
+
+/// Returns what may be put in place of the word, with a space after it where a comment begins right after the word.
+fn spaced(
+    alloc: Global,
+    text: &str,
+    own: &Judged,
+    completion: Completion,
+) -> Result<Completion, AllocError>
+    ensures { IfOk result (λ put. put ≡ completed.spaced text.now own.now.comments.items completion) }
+{
+    if !is_comment(text, own, completion.to) {
+        return Ok(completion);
+    }
+    let Completion {
+        from,
+        to,
+        before,
+        behind,
+        entries,
+        incomplete,
+    } = completion;
+    let behind = with_space(alloc, behind.as_str())?;
+    Ok(Completion {
+        from,
+        to,
+        before,
+        behind,
+        entries,
+        incomplete,
+    })
+}
+
+/// Returns what may be put in place of the word at the byte, by what is judged of the text: null in a comment.
 fn completed_at<L: Ledger>(
     alloc: Global,
     language: &Language,
+    kind: Kind,
+    page: &Page<'_>,
+    own: &Judged,
+    byte: usize,
+    steps: &mut Steps<L>,
+) -> Result<Value, AllocError>
+    requires { AreStarts page.now.text.now page.now.lines.now }
+    ensures { IfOk result (λ v. IsCompletedAt language.now kind page.now.encoding page.now.text.now
+        own.now.comments.items own.now.bytes.items byte (view v)) }
+{
+    let text = page.text;
+    if is_commenting(text, own, byte) {
+        return Ok(null_value());
+    }
+    let bytes = own.bytes.as_slice();
+    let completion = completion_at(alloc, language, kind, bytes, byte, steps)?;
+    let put = spaced(alloc, text, own, completion)?;
+    let value = completion_value(alloc, page, &put)?;
+    Ok(value)
+}
+
+/// Returns what may be put in place of the word at the position of a text.
+fn text_completion<L: Ledger>(
+    alloc: Global,
+    defined: &Defined,
     kind: Kind,
     encoding: Encoding,
     text: &str,
     position: Position,
     steps: &mut Steps<L>,
 ) -> Result<Value, AllocError>
-    ensures { IfOk result (λ v. IsCompletedAt language.now kind encoding text.now position (view v)) }
+    requires fit { IsCommentOf (fixed_words defined.now.language) defined.now.comment }
+    ensures { IfOk result (λ v. IsCompletedOf defined.now kind encoding text.now position (view v)) }
 {
     let lines = Lines::of(alloc, text)?;
     let page = Page {
@@ -164,29 +235,30 @@ fn completed_at<L: Ledger>(
         lines: &lines,
     };
     let byte = lines.byte_of(text, encoding, position);
-    let bytes = text.as_bytes();
-    let completion = completion_at(alloc, language, kind, bytes, byte, steps)?;
-    let value = completion_value(alloc, &page, &completion)?;
+    let own = asked_text(alloc, defined, text, byte)?;
+    let language = &defined.language;
+    let value = completed_at(alloc, language, kind, &page, &own, byte, steps)?;
     Ok(value)
 }
 
 /// Returns what may be put in place of the word at the position of a document, whose text is to be a program of the
-/// kind: null where the text is not known. Fails only when out of memory.
+/// kind: null where the text is not known, and in a comment. Fails only when out of memory.
 pub(crate) fn document_completion<L: Ledger>(
     alloc: Global,
-    language: &Language,
+    defined: &Defined,
     kind: Kind,
     encoding: Encoding,
     document: &Document,
     position: Position,
     steps: &mut Steps<L>,
 ) -> Result<Value, AllocError>
-    ensures { IfOk result (λ v. IsCompletedIn language.now kind encoding document.now.text position (view v)) }
+    requires fit { IsCommentOf (fixed_words defined.now.language) defined.now.comment }
+    ensures { IfOk result (λ v. IsCompletedIn defined.now kind encoding document.now.text position (view v)) }
 {
     match &document.text {
         Some(text) => {
             let own = text.as_str();
-            let value = completed_at(alloc, language, kind, encoding, own, position, steps)?;
+            let value = text_completion(alloc, defined, kind, encoding, own, position, steps)?;
             Ok(value)
         }
         None => Ok(null_value()),
@@ -198,14 +270,15 @@ impl Server {
     pub(crate) fn complete<L: Ledger>(
         &self,
         alloc: Global,
-        language: &Language,
+        defined: &Defined,
         kind: Kind,
         id: &Value,
         given: Params<'_>,
         steps: &mut Steps<L>,
     ) -> Result<Reply, AllocError>
+        requires fit { IsCommentOf (fixed_words defined.now.language) defined.now.comment }
         ensures { IfOk result (λ r. (method : List ℕ) → call_of method ≡ Some calls.Completion
-            → Serves language.now kind self.now (request (view id.now) method (given_of given.entry))
+            → Serves defined.now kind self.now (request (view id.now) method (given_of given.entry))
             self.now.encoding self.now.documents (out_of r)) }
     {
         match self.place_in(given) {
@@ -214,7 +287,7 @@ impl Server {
                 let position = place.position;
                 let encoding = self.encoding;
                 let told = document_completion(
-                    alloc, language, kind, encoding, document, position, steps,
+                    alloc, defined, kind, encoding, document, position, steps,
                 )?;
                 let reply = answered(alloc, id, told)?;
                 Ok(reply)

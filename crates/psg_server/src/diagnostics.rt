@@ -3,15 +3,19 @@ ghost use Rattle.std.specs.Prelude.{◌≡◌, ◌++◌, ◌≤◌, [], List, If
 ghost use Rattle.serde_json.specs.Data.{Data};
 ghost use Rattle.serde_json.specs.View.{view};
 ghost use Rattle.psg_documents.specs.Positions.{AreStarts};
+ghost use Rattle.psg_defcomment.specs.Reading.{IsCommentOf};
+ghost use Rattle.psg_grammar.specs.WellFormed.{fixed_words};
 ghost use Rattle.psg_grammar.specs.Kinds.{HasKind};
 ghost use Rattle.psg_specimen.specs.Languages.{IsDeclaringPhylum};
 ghost use Rattle.psg_server.specs.Diagnostics.{AreDiagnostics, IsDiagnostic, IsMarked, IsPublished};
 ghost use Rattle.psg_server.specs.Diagnostics.{IsReported, byte_in, cleared_data, cleared_params};
 ghost use Rattle.psg_server.specs.Diagnostics.{diagnostic_data, is_word, marked, publish_data};
 ghost use Rattle.psg_server.specs.Diagnostics.{publish_params, severity_of, word_length};
+ghost use Rattle.psg_server.specs.Judging.{OfJudged};
 
 use crate::documents::Document;
 use crate::fields::Told;
+use crate::judging::{Defined, Judged, without_comments};
 use crate::ranges::{Page, after, range_value};
 use psg_documents::{Encoding, Lines};
 use psg_grammar::Kind;
@@ -182,22 +186,24 @@ fn publish_value(
     Ok(told)
 }
 
-/// Returns the note that says what is found in the text of a document, which is to be a program of the kind.
+/// Returns the note that says what is found in what is judged of the text of a document, which is to be a program of the
+/// kind.
 fn reported<L: Ledger>(
     alloc: Global,
     language: &Language,
     kind: Kind,
     encoding: Encoding,
     told: Told<'_>,
+    own: &Judged,
     steps: &mut Steps<L>,
 ) -> Result<Value, AllocError>
     requires kind { HasKind language.now kind }
     requires quiet_kind { IsDeclaringPhylum language.now kind → ⊥ }
     ensures { IfOk result (λ v. IsReported language.now kind encoding told.entry.address.now told.entry.version
-        told.entry.text.now (view v)) }
+        told.entry.text.now own.now.bytes.items (view v)) }
 {
     let text = told.text;
-    let report = lint(alloc, language, kind, text.as_bytes(), steps)?;
+    let report = lint(alloc, language, kind, own.bytes.as_slice(), steps)?;
     let lines = Lines::of(alloc, text)?;
     let page = Page {
         encoding,
@@ -206,6 +212,28 @@ fn reported<L: Ledger>(
     };
     let values = diagnostics(alloc, &page, &report)?;
     let value = publish_value(alloc, told.address, told.version, values)?;
+    Ok(value)
+}
+
+/// Returns the note that says what is found in the text of a document, which is to be a program of the kind.
+fn text_report<L: Ledger>(
+    alloc: Global,
+    defined: &Defined,
+    kind: Kind,
+    encoding: Encoding,
+    told: Told<'_>,
+    steps: &mut Steps<L>,
+) -> Result<Value, AllocError>
+    requires kind { HasKind defined.now.language kind }
+    requires fit { IsCommentOf (fixed_words defined.now.language) defined.now.comment }
+    requires quiet_kind { IsDeclaringPhylum defined.now.language kind → ⊥ }
+    ensures { IfOk result (λ v. OfJudged defined.now told.entry.text.now (λ comments bytes.
+        IsReported defined.now.language kind encoding told.entry.address.now told.entry.version told.entry.text.now
+        bytes (view v))) }
+{
+    let own = without_comments(alloc, defined, told.text)?;
+    let language = &defined.language;
+    let value = reported(alloc, language, kind, encoding, told, &own, steps)?;
     Ok(value)
 }
 
@@ -229,15 +257,16 @@ pub(crate) fn cleared(alloc: Global, address: &str) -> Result<Value, AllocError>
 /// where the text is not known. Fails only when out of memory.
 pub(crate) fn published<L: Ledger>(
     alloc: Global,
-    language: &Language,
+    defined: &Defined,
     kind: Kind,
     encoding: Encoding,
     document: &Document,
     steps: &mut Steps<L>,
 ) -> Result<Value, AllocError>
-    requires kind { HasKind language.now kind }
-    requires quiet_kind { IsDeclaringPhylum language.now kind → ⊥ }
-    ensures { IfOk result (λ v. IsPublished language.now kind encoding document.now (view v)) }
+    requires kind { HasKind defined.now.language kind }
+    requires fit { IsCommentOf (fixed_words defined.now.language) defined.now.comment }
+    requires quiet_kind { IsDeclaringPhylum defined.now.language kind → ⊥ }
+    ensures { IfOk result (λ v. IsPublished defined.now kind encoding document.now (view v)) }
 {
     let address = document.address.as_str();
     match &document.text {
@@ -247,7 +276,7 @@ pub(crate) fn published<L: Ledger>(
                 version: document.version,
                 text: text.as_str(),
             };
-            let value = reported(alloc, language, kind, encoding, told, steps)?;
+            let value = text_report(alloc, defined, kind, encoding, told, steps)?;
             Ok(value)
         }
         None => {

@@ -1,26 +1,34 @@
 //! The text that a document is to have, as an edit.
 ghost use Rattle.std.specs.Prelude.{ℕ, ◌≡◌, ◌<◌, ◌≤◌, ◌+◌, ◌-◌, ◌↔◌, ◌==◌, List, IfOk};
 ghost use Rattle.std.specs.Prelude.{IfSome, IsTrue, None, Some, cond, drop, length};
-ghost use Rattle.std.specs.Prelude.{slice_get, slice_index, take};
+ghost use Rattle.std.specs.Prelude.{slice_get, slice_index, string_bytes, take};
 ghost use Rattle.std.specs.Str.{IsUtf8};
 ghost use Rattle.serde_json.specs.Data.{array, item, no_items, null};
 ghost use Rattle.serde_json.specs.View.{view};
 ghost use Rattle.psg_documents.specs.Positions.{AreStarts, IsLineStart};
+ghost use Rattle.psg_defcomment.specs.Reading.{IsCommentOf};
+ghost use Rattle.psg_grammar.specs.WellFormed.{fixed_words};
 ghost use Rattle.psg_grammar.specs.Kinds.{HasKind};
-ghost use Rattle.psg_grammar.specs.declared.types.Definition.{Definition as Plain};
+ghost use Rattle.psg_server.specs.declared.judging.Defined.{Defined as PlainDefined};
+ghost use Rattle.psg_comments.specs.declared.finding.Comment.{Comment as PlainComment};
+ghost use Rattle.psg_class.specs.Texts.{TextTokens};
+ghost use Rattle.psg_program.specs.Decoding.{unmarked};
 ghost use Rattle.psg_grammar.specs.declared.types.Kind.{Kind as PlainKind};
 ghost use Rattle.psg_documents.specs.declared.encoding.Encoding.{Encoding as PlainEncoding};
 ghost use Rattle.psg_program.specs.Programs.{IsProgram, IsProgramFault};
-ghost use Rattle.psg_server.specs.Edits.{IsEdit, IsFormatting, IsFormattingOf, IsFront, IsTail, edit_data};
+ghost use Rattle.psg_server.specs.Edits.{IsEdit, IsFormatting, IsFormattingOf, IsFront, IsTail, IsWanted, edit_data};
+ghost use Rattle.psg_server.specs.Judging.{OfJudged};
 
 use crate::documents::Document;
+use crate::judging::{Defined, Judged, unmarked_text, without_comments};
 use crate::ranges::{Page, range_value};
+use psg_commented::with_comments;
+use psg_comments::Comment;
 use psg_documents::{Encoding, Lines};
 use psg_grammar::Kind;
-use psg_program::{ProgramFault, formatted, read_program};
-use psg_specimen::Language;
+use psg_program::{Program, ProgramFault, formatted, read_program};
 use psg_terms::Steps;
-use psg_tree::Tree;
+use psg_unparse::unparse;
 use serde_json::{Value, json};
 use std::alloc::{AllocError, Global};
 use std::sync::ledger::Ledger;
@@ -187,18 +195,52 @@ fn one_of(alloc: Global, edit: Value) -> Result<Value, AllocError>
     json!(in alloc; [edit])
 }
 
-/// Returns the edits that make the text of the program as it is to be: none, or one.
+/// Writes the text that the text is to be, whose tokens without its comments are those of the program.
+fn wanted_text(
+    alloc: Global,
+    defined: &Defined,
+    text: &str,
+    comments: &[Comment],
+    program: &Program,
+) -> Result<String, AllocError>
+    requires fit { IsCommentOf (fixed_words defined.now.language) defined.now.comment }
+    ensures { IfOk result (λ wanted. (judged : List ℕ)
+        → TextTokens defined.now.language (unmarked judged) program.now.tokens.items
+        → IsWanted defined.now.language defined.now.comment text.now comments.now judged program.now.tree
+        (string_bytes wanted)) }
+{
+    let definition = defined.language.definition();
+    let Some(token) = &defined.comment else {
+        return formatted(alloc, definition, &program.tree);
+    };
+    let printed = unparse(alloc, definition, &program.tree)?;
+    with_comments(
+        alloc,
+        defined.language.lexis(),
+        token.as_str(),
+        unmarked_text(text),
+        program.tokens.as_slice(),
+        comments,
+        printed.text.as_str(),
+    )
+}
+
+/// Returns the edits that make the text as it is to be: none, or one. Its program is given.
 fn edits(
     alloc: Global,
-    language: &Language,
+    defined: &Defined,
     encoding: Encoding,
     text: &str,
-    tree: &Tree,
+    comments: &[Comment],
+    program: &Program,
 ) -> Result<Value, AllocError>
-    ensures { IfOk result (λ v. (kind : PlainKind) → IsProgram language.now kind text.now tree.now
-        → IsFormatting language.now kind encoding text.now (view v)) }
+    requires fit { IsCommentOf (fixed_words defined.now.language) defined.now.comment }
+    ensures { IfOk result (λ v. (kind : PlainKind) (judged : List ℕ)
+        → IsProgram defined.now.language kind judged program.now.tree
+        → TextTokens defined.now.language (unmarked judged) program.now.tokens.items
+        → IsFormatting defined.now kind encoding text.now comments.now judged (view v)) }
 {
-    let wanted = formatted(alloc, language.definition(), tree)?;
+    let wanted = wanted_text(alloc, defined, text, comments, program)?;
     let own = wanted.as_str();
     if same_text(text, own) {
         return Ok(none_of(alloc));
@@ -215,10 +257,11 @@ pub(crate) fn null_value() -> Value
     Value::Null
 }
 
-/// Returns what `formatting` answers for a text that is no program.
+/// Returns what `formatting` answers for a text that is no program without its comments.
 fn without_program(fault: &ProgramFault) -> Result<Value, AllocError>
-    ensures { IfOk result (λ v. (def : Plain) (kind : PlainKind) (encoding : PlainEncoding) (text : List ℕ)
-        → IsProgramFault def kind text fault.now → IsFormatting def kind encoding text (view v)) }
+    ensures { IfOk result (λ v. (def : PlainDefined) (kind : PlainKind) (encoding : PlainEncoding) (text : List ℕ)
+        (comments : List PlainComment) (judged : List ℕ) → IsProgramFault def.language kind judged fault.now
+        → IsFormatting def kind encoding text comments judged (view v)) }
 {
     match fault {
         ProgramFault::Syntax(_) => Ok(null_value()),
@@ -226,22 +269,27 @@ fn without_program(fault: &ProgramFault) -> Result<Value, AllocError>
     }
 }
 
-/// Returns what `formatting` answers for a text that is to be a program of the kind: nothing where it is none, and else
-/// the edits that make it as it is to be.
+/// Returns what `formatting` answers for a text that is to be a program of the kind, by what is judged of it: nothing
+/// where it is none, and else the edits that make it as it is to be.
 fn formatting<L: Ledger>(
     alloc: Global,
-    language: &Language,
+    defined: &Defined,
     kind: Kind,
     encoding: Encoding,
     text: &str,
+    own: &Judged,
     steps: &mut Steps<L>,
 ) -> Result<Value, AllocError>
-    requires { HasKind language.now kind }
-    ensures { IfOk result (λ v. IsFormatting language.now kind encoding text.now (view v)) }
+    requires kind { HasKind defined.now.language kind }
+    requires fit { IsCommentOf (fixed_words defined.now.language) defined.now.comment }
+    ensures { IfOk result (λ v. IsFormatting defined.now kind encoding text.now own.now.comments.items
+        own.now.bytes.items (view v)) }
 {
-    match read_program(alloc, language, kind, text.as_bytes(), steps) {
+    let bytes = own.bytes.as_slice();
+    match read_program(alloc, &defined.language, kind, bytes, steps) {
         Ok(program) => {
-            let found = edits(alloc, language, encoding, text, &program.tree)?;
+            let comments = own.comments.as_slice();
+            let found = edits(alloc, defined, encoding, text, comments, &program)?;
             Ok(found)
         }
         Err(fault) => {
@@ -251,23 +299,44 @@ fn formatting<L: Ledger>(
     }
 }
 
+/// Returns what `formatting` answers for a text that is to be a program of the kind.
+fn text_edits<L: Ledger>(
+    alloc: Global,
+    defined: &Defined,
+    kind: Kind,
+    encoding: Encoding,
+    text: &str,
+    steps: &mut Steps<L>,
+) -> Result<Value, AllocError>
+    requires kind { HasKind defined.now.language kind }
+    requires fit { IsCommentOf (fixed_words defined.now.language) defined.now.comment }
+    ensures { IfOk result (λ v. OfJudged defined.now text.now (λ comments bytes.
+        IsFormatting defined.now kind encoding text.now comments bytes (view v))) }
+{
+    let own = without_comments(alloc, defined, text)?;
+    let value = formatting(alloc, defined, kind, encoding, text, &own, steps)?;
+    Ok(value)
+}
+
 /// Returns what `formatting` answers for a document, whose text is to be a program of the kind: nothing where the text
-/// is not known. Fails only when out of memory.
+/// is not known. Comments are kept. Fails only when out of memory.
 pub(crate) fn document_edits<L: Ledger>(
     alloc: Global,
-    language: &Language,
+    defined: &Defined,
     kind: Kind,
     encoding: Encoding,
     document: &Document,
     steps: &mut Steps<L>,
 ) -> Result<Value, AllocError>
-    requires { HasKind language.now kind }
-    ensures { IfOk result (λ v. IsFormattingOf language.now kind encoding document.now.text (view v)) }
+    requires kind { HasKind defined.now.language kind }
+    requires fit { IsCommentOf (fixed_words defined.now.language) defined.now.comment }
+    ensures { IfOk result (λ v. IsFormattingOf defined.now kind encoding document.now.text (view v)) }
 {
     match &document.text {
         Some(text) => {
-            let edits = formatting(alloc, language, kind, encoding, text.as_str(), steps)?;
-            Ok(edits)
+            let own = text.as_str();
+            let value = text_edits(alloc, defined, kind, encoding, own, steps)?;
+            Ok(value)
         }
         None => Ok(null_value()),
     }

@@ -2,12 +2,16 @@
 ghost use Rattle.std.specs.Prelude.{◌≡◌, ◌++◌, ◌∷◌, [], IfOk, OnOk, map, string_bytes};
 ghost use Rattle.serde_json.specs.View.{view};
 ghost use Rattle.psg_documents.specs.Positions.{AreStarts};
+ghost use Rattle.psg_defcomment.specs.Reading.{IsCommentOf};
+ghost use Rattle.psg_grammar.specs.WellFormed.{fixed_words};
 ghost use Rattle.psg_grammar.specs.Kinds.{HasKind};
 ghost use Rattle.psg_server.specs.Hovering as told;
 ghost use Rattle.psg_server.specs.Hovering.{IsHoverValue, IsTold, IsToldAt, IsToldIn};
+ghost use Rattle.psg_server.specs.Judging.{OfJudged};
 
 use crate::documents::Document;
 use crate::edits::null_value;
+use crate::judging::{Defined, Judged, is_comment, without_comments};
 use crate::ranges::{Page, range_value};
 use psg_documents::{Encoding, Lines, Position};
 use psg_grammar::Kind;
@@ -96,18 +100,20 @@ fn told_value(alloc: Global, page: &Page<'_>, hover: &Option<Hover>) -> Result<V
     }
 }
 
-/// Returns what is said of the node at the position of a text.
+/// Returns what is said of the node at the position of a text, by what is judged of it: null in a comment.
 fn told_at<L: Ledger>(
     alloc: Global,
     language: &Language,
     kind: Kind,
     encoding: Encoding,
     text: &str,
+    own: &Judged,
     position: Position,
     steps: &mut Steps<L>,
 ) -> Result<Value, AllocError>
     requires { HasKind language.now kind }
-    ensures { IfOk result (λ v. IsToldAt language.now kind encoding text.now position (view v)) }
+    ensures { IfOk result (λ v. IsToldAt language.now kind encoding text.now own.now.comments.items own.now.bytes.items
+        position (view v)) }
 {
     let lines = Lines::of(alloc, text)?;
     let page = Page {
@@ -116,30 +122,55 @@ fn told_at<L: Ledger>(
         lines: &lines,
     };
     let byte = lines.byte_of(text, encoding, position);
-    let bytes = text.as_bytes();
+    if is_comment(text, own, byte) {
+        return Ok(null_value());
+    }
+    let bytes = own.bytes.as_slice();
     let hover = hover_at(alloc, language, kind, bytes, byte, steps)?;
     let value = told_value(alloc, &page, &hover)?;
     Ok(value)
 }
 
+/// Returns what is said of the node at the position of a text.
+fn text_hover<L: Ledger>(
+    alloc: Global,
+    defined: &Defined,
+    kind: Kind,
+    encoding: Encoding,
+    text: &str,
+    position: Position,
+    steps: &mut Steps<L>,
+) -> Result<Value, AllocError>
+    requires kind { HasKind defined.now.language kind }
+    requires fit { IsCommentOf (fixed_words defined.now.language) defined.now.comment }
+    ensures { IfOk result (λ v. OfJudged defined.now text.now (λ comments bytes.
+        IsToldAt defined.now.language kind encoding text.now comments bytes position (view v))) }
+{
+    let own = without_comments(alloc, defined, text)?;
+    let language = &defined.language;
+    let value = told_at(alloc, language, kind, encoding, text, &own, position, steps)?;
+    Ok(value)
+}
+
 /// Returns what is said of the node at the position of a document, whose text is to be a program of the kind: nothing
-/// where no node is there, and where the text is no program or not known. Fails only when out of memory.
+/// in a comment, where no node is there, and where the text is no program or not known. Fails only when out of memory.
 pub(crate) fn document_hover<L: Ledger>(
     alloc: Global,
-    language: &Language,
+    defined: &Defined,
     kind: Kind,
     encoding: Encoding,
     document: &Document,
     position: Position,
     steps: &mut Steps<L>,
 ) -> Result<Value, AllocError>
-    requires { HasKind language.now kind }
-    ensures { IfOk result (λ v. IsToldIn language.now kind encoding document.now.text position (view v)) }
+    requires kind { HasKind defined.now.language kind }
+    requires fit { IsCommentOf (fixed_words defined.now.language) defined.now.comment }
+    ensures { IfOk result (λ v. IsToldIn defined.now kind encoding document.now.text position (view v)) }
 {
     match &document.text {
         Some(text) => {
             let own = text.as_str();
-            let value = told_at(alloc, language, kind, encoding, own, position, steps)?;
+            let value = text_hover(alloc, defined, kind, encoding, own, position, steps)?;
             Ok(value)
         }
         None => Ok(null_value()),

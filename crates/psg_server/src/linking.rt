@@ -1,28 +1,26 @@
 //! What is answered of the name at a position of a document.
-ghost use Rattle.std.specs.Prelude.{◌≡◌, ◌++◌, ◌∷◌, IfOk, List, MatchResult, map, true};
+ghost use Rattle.std.specs.Prelude.{◌≡◌, ◌++◌, ◌∷◌, IfOk, List, map, true};
 ghost use Rattle.serde_json.specs.Data.{Data, array, null};
 ghost use Rattle.serde_json.specs.View.{items_of, view};
 ghost use Rattle.psg_documents.specs.Positions.{AreStarts};
+ghost use Rattle.psg_defcomment.specs.Reading.{IsCommentOf};
+ghost use Rattle.psg_grammar.specs.WellFormed.{fixed_words};
 ghost use Rattle.psg_grammar.specs.Kinds.{HasKind};
 ghost use Rattle.psg_links.specs.declared.spot.Spot.{Spot as PlainSpot};
-ghost use Rattle.psg_links.specs.Spots.{IsPage};
 ghost use Rattle.psg_server.specs.Linking as linking;
-ghost use Rattle.psg_server.specs.Linking.{AreShown, IsDeclaration, IsFound, IsList, IsNamed};
-ghost use Rattle.psg_server.specs.Linking.{IsNamedOf, IsPrepared, IsReplied};
-ghost use Rattle.psg_server.specs.Linking.{IsRepliedOf, IsReply, IsReplyOf, IsShown, IsSpotRange};
-ghost use Rattle.psg_server.specs.Linking.{IsThere, IsUnnamed, IsUnnamedOf, way_of};
-ghost use Rattle.psg_server.specs.Told.{naming_of};
+ghost use Rattle.psg_server.specs.Judging.{OfJudged};
+ghost use Rattle.psg_server.specs.Linking.{AreShown, IsDeclaration, IsFound, IsList, IsPrepared, IsReplied};
+ghost use Rattle.psg_server.specs.Linking.{IsRepliedOf, IsReply, IsReplyOf, IsShown, IsSpotRange, IsThere, way_of};
 
 use crate::diagnostics::byte_in;
 use crate::documents::Document;
 use crate::edits::{edit_of, null_value};
-use crate::fields::Naming;
+use crate::judging::{Defined, Judged, own_byte, without_comments};
 use crate::methods::Ask;
 use crate::ranges::{Page as Sheet, range_value};
 use psg_documents::{Encoding, Lines, Position};
 use psg_grammar::Kind;
-use psg_links::{Linked, Page, Refusal, Spot, rename};
-use psg_program::unmarked;
+use psg_links::{Linked, Page, Spot};
 use psg_specimen::Language;
 use psg_terms::Steps;
 use serde_json::{Value, json};
@@ -38,34 +36,6 @@ pub enum Showing<'a> {
     Light,
     /// As an edit that gives it the new name.
     Edit(&'a str),
-}
-
-/// What keeps names from a new name.
-#[derive(Clone, Copy, Debug, PartialEq, Eq)]
-pub enum Unnamed {
-    /// The text is not known.
-    Unknown,
-    /// The text is no program.
-    NoProgram,
-    /// The name can't get this name.
-    Refused(Refusal),
-}
-
-/// Returns the words for what keeps names from a new name.
-pub(crate) fn words(why: Unnamed) -> &'static str
-    ensures { result.now ≡ linking.words_of why }
-{
-    match why {
-        Unnamed::Unknown => "the text is not known",
-        Unnamed::NoProgram => "the text is no program",
-        Unnamed::Refused(Refusal::NoName) => "there is no name here",
-        Unnamed::Refused(Refusal::Outside) => "the name is not declared in this text",
-        Unnamed::Refused(Refusal::NewName) => "this is no name of the language",
-        Unnamed::Refused(Refusal::Unread) =>
-            "the text with the new name is not read as the same program",
-        Unnamed::Refused(Refusal::Relinked) =>
-            "with this name, a name would mean another declaration",
-    }
 }
 
 /// Returns the range of the bytes that the name takes.
@@ -174,7 +144,7 @@ fn push_shown(
 }
 
 /// Returns the names that are wanted as they are shown.
-fn all_shown(
+pub(crate) fn all_shown(
     alloc: Global,
     sheet: &Sheet<'_>,
     how: Showing<'_>,
@@ -195,7 +165,7 @@ fn all_shown(
 }
 
 /// Returns the list of the values.
-fn list_of(values: Vec<Value>) -> Value
+pub(crate) fn list_of(values: Vec<Value>) -> Value
     ensures { view result ≡ array (items_of (map view values.items)) }
 {
     Value::Array(values)
@@ -314,16 +284,8 @@ fn reply(
     }
 }
 
-/// Returns the byte of what was read, which is after a byte order mark.
-fn own_byte(text: &[u8], byte: usize) -> usize
-    ensures { result ≡ linking.own_byte text.now byte }
-{
-    let own = unmarked(text).len();
-    byte.saturating_sub(text.len().saturating_sub(own))
-}
-
 /// Returns the byte of the position in what was read.
-fn byte_at(sheet: &Sheet<'_>, at: Position) -> usize
+pub(crate) fn byte_at(sheet: &Sheet<'_>, at: Position) -> usize
     requires { AreStarts sheet.now.text.now sheet.now.lines.now }
     ensures { IsThere sheet.now.encoding sheet.now.text.now at result }
 {
@@ -331,20 +293,22 @@ fn byte_at(sheet: &Sheet<'_>, at: Position) -> usize
     own_byte(sheet.text.as_bytes(), there)
 }
 
-/// Returns the name at the position, if there is one.
+/// Returns the name at the position, if there is one, by what is judged of the text.
 fn found<L: Ledger>(
     alloc: Global,
     language: &Language,
     kind: Kind,
     sheet: &Sheet<'_>,
+    own: &Judged,
     at: Position,
     steps: &mut Steps<L>,
 ) -> Result<Option<Linked>, AllocError>
     requires kind { HasKind language.now kind }
     requires starts { AreStarts sheet.now.text.now sheet.now.lines.now }
-    ensures { IfOk result (IsFound language.now kind sheet.now.encoding sheet.now.text.now at) }
+    ensures { IfOk result
+        (IsFound language.now kind sheet.now.encoding sheet.now.text.now own.now.bytes.items at) }
 {
-    let bytes = sheet.text.as_bytes();
+    let bytes = own.bytes.as_slice();
     let read = Page::of(alloc, language, kind, bytes, steps)?;
     match read {
         Some(page) => {
@@ -356,10 +320,33 @@ fn found<L: Ledger>(
     }
 }
 
+/// Returns what is answered of the name at the position of the text, by what is judged of it.
+fn sheet_reply<L: Ledger>(
+    alloc: Global,
+    language: &Language,
+    kind: Kind,
+    sheet: &Sheet<'_>,
+    own: &Judged,
+    address: &str,
+    ask: Ask,
+    all: bool,
+    at: Position,
+    steps: &mut Steps<L>,
+) -> Result<Value, AllocError>
+    requires kind { HasKind language.now kind }
+    requires starts { AreStarts sheet.now.text.now sheet.now.lines.now }
+    ensures { IfOk result (λ v. IsReplied sheet.now.encoding sheet.now.text.now address.now language.now kind
+        own.now.bytes.items ask all at (view v)) }
+{
+    let linked = found(alloc, language, kind, sheet, own, at, steps)?;
+    let value = reply(alloc, sheet, address, ask, all, &linked)?;
+    Ok(value)
+}
+
 /// Returns what is answered of the name at the position of the text.
 fn text_reply<L: Ledger>(
     alloc: Global,
-    language: &Language,
+    defined: &Defined,
     kind: Kind,
     encoding: Encoding,
     address: &str,
@@ -369,17 +356,22 @@ fn text_reply<L: Ledger>(
     at: Position,
     steps: &mut Steps<L>,
 ) -> Result<Value, AllocError>
-    requires { HasKind language.now kind }
-    ensures { IfOk result (λ v. IsReplied encoding text.now address.now language.now kind ask all at (view v)) }
+    requires kind { HasKind defined.now.language kind }
+    requires fit { IsCommentOf (fixed_words defined.now.language) defined.now.comment }
+    ensures { IfOk result (λ v. OfJudged defined.now text.now (λ comments bytes.
+        IsReplied encoding text.now address.now defined.now.language kind bytes ask all at (view v))) }
 {
+    let own = without_comments(alloc, defined, text)?;
     let lines = Lines::of(alloc, text)?;
     let sheet = Sheet {
         encoding,
         text,
         lines: &lines,
     };
-    let linked = found(alloc, language, kind, &sheet, at, steps)?;
-    let value = reply(alloc, &sheet, address, ask, all, &linked)?;
+    let language = &defined.language;
+    let value = sheet_reply(
+        alloc, language, kind, &sheet, &own, address, ask, all, at, steps,
+    )?;
     Ok(value)
 }
 
@@ -387,7 +379,7 @@ fn text_reply<L: Ledger>(
 /// when out of memory. It costs a reading of the text and the links of its names.
 pub(crate) fn document_reply<L: Ledger>(
     alloc: Global,
-    language: &Language,
+    defined: &Defined,
     kind: Kind,
     encoding: Encoding,
     document: &Document,
@@ -396,8 +388,9 @@ pub(crate) fn document_reply<L: Ledger>(
     at: Position,
     steps: &mut Steps<L>,
 ) -> Result<Value, AllocError>
-    requires { HasKind language.now kind }
-    ensures { IfOk result (λ v. IsRepliedOf language.now kind encoding document.now.address document.now.text ask all at
+    requires kind { HasKind defined.now.language kind }
+    requires fit { IsCommentOf (fixed_words defined.now.language) defined.now.comment }
+    ensures { IfOk result (λ v. IsRepliedOf defined.now kind encoding document.now.address document.now.text ask all at
         (view v)) }
 {
     let address = document.address.as_str();
@@ -405,114 +398,10 @@ pub(crate) fn document_reply<L: Ledger>(
         Some(text) => {
             let own = text.as_str();
             let value = text_reply(
-                alloc, language, kind, encoding, address, own, ask, all, at, steps,
+                alloc, defined, kind, encoding, address, own, ask, all, at, steps,
             )?;
             Ok(value)
         }
         None => Ok(null_value()),
-    }
-}
-
-/// Returns the edits of the document with the address.
-fn workspace(alloc: Global, address: &str, values: Vec<Value>) -> Result<Value, AllocError>
-    ensures { IfOk result (λ v. view v ≡ linking.workspace_data address.now (map view values.items)) }
-{
-    let edits = list_of(values);
-    json!(in alloc; {"changes": {address: edits}})
-}
-
-/// Returns the edits that give the names of the page at the position the new one, or what keeps them from it.
-fn page_naming<L: Ledger>(
-    alloc: Global,
-    language: &Language,
-    kind: Kind,
-    sheet: &Sheet<'_>,
-    address: &str,
-    page: &Page,
-    naming: Naming<'_>,
-    steps: &mut Steps<L>,
-) -> Result<Result<Value, Unnamed>, AllocError>
-    requires kind { HasKind language.now kind }
-    requires starts { AreStarts sheet.now.text.now sheet.now.lines.now }
-    requires page { IsPage language.now kind sheet.now.text.now page.now }
-    ensures { IfOk result (λ r. MatchResult r (λ v. IsNamed language.now kind sheet.now.encoding address.now
-        sheet.now.text.now (naming_of naming.entry) (view v))
-        (IsUnnamed language.now kind sheet.now.encoding address.now sheet.now.text.now (naming_of naming.entry))) }
-{
-    let byte = byte_at(sheet, naming.at);
-    let bytes = sheet.text.as_bytes();
-    let answer = rename(alloc, language, kind, bytes, page, byte, naming.name, steps)?;
-    match answer {
-        Ok(spots) => {
-            let edits = all_shown(
-                alloc,
-                sheet,
-                Showing::Edit(naming.name),
-                true,
-                spots.as_slice(),
-            )?;
-            let value = workspace(alloc, address, edits)?;
-            Ok(Ok(value))
-        }
-        Err(why) => Ok(Err(Unnamed::Refused(why))),
-    }
-}
-
-/// Returns the edits that give the names of the text at the position the new one, or what keeps them from it.
-fn text_naming<L: Ledger>(
-    alloc: Global,
-    language: &Language,
-    kind: Kind,
-    encoding: Encoding,
-    address: &str,
-    text: &str,
-    naming: Naming<'_>,
-    steps: &mut Steps<L>,
-) -> Result<Result<Value, Unnamed>, AllocError>
-    requires { HasKind language.now kind }
-    ensures { IfOk result (λ r. MatchResult r
-        (λ v. IsNamed language.now kind encoding address.now text.now (naming_of naming.entry) (view v))
-        (IsUnnamed language.now kind encoding address.now text.now (naming_of naming.entry))) }
-{
-    let lines = Lines::of(alloc, text)?;
-    let sheet = Sheet {
-        encoding,
-        text,
-        lines: &lines,
-    };
-    let read = Page::of(alloc, language, kind, text.as_bytes(), steps)?;
-    match read {
-        Some(page) => {
-            let named = page_naming(alloc, language, kind, &sheet, address, &page, naming, steps)?;
-            Ok(named)
-        }
-        None => Ok(Err(Unnamed::NoProgram)),
-    }
-}
-
-/// Returns the edits that give the names of the document at the position the new one, or what keeps them from it. Fails
-/// only when out of memory. It costs two readings of the text, each with the links of its names.
-pub(crate) fn document_naming<L: Ledger>(
-    alloc: Global,
-    language: &Language,
-    kind: Kind,
-    encoding: Encoding,
-    document: &Document,
-    naming: Naming<'_>,
-    steps: &mut Steps<L>,
-) -> Result<Result<Value, Unnamed>, AllocError>
-    requires { HasKind language.now kind }
-    ensures { IfOk result (λ r. MatchResult r (λ v. IsNamedOf language.now kind encoding document.now.address
-        document.now.text (naming_of naming.entry) (view v))
-        (IsUnnamedOf language.now kind encoding document.now.address document.now.text (naming_of naming.entry))) }
-{
-    let address = document.address.as_str();
-    match &document.text {
-        Some(text) => {
-            let own = text.as_str();
-            let named = text_naming(alloc, language, kind, encoding, address, own, naming, steps)?;
-            Ok(named)
-        }
-        None => Ok(Err(Unnamed::Unknown)),
     }
 }

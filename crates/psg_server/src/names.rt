@@ -1,6 +1,8 @@
 //! Requests about the names of a document.
 ghost use Rattle.std.specs.Prelude.{ℕ, ◌≡◌, IfOk, List, Some};
 ghost use Rattle.serde_json.specs.View.{view};
+ghost use Rattle.psg_defcomment.specs.Reading.{IsCommentOf};
+ghost use Rattle.psg_grammar.specs.WellFormed.{fixed_words};
 ghost use Rattle.psg_grammar.specs.Kinds.{HasKind};
 ghost use Rattle.psg_messages.specs.Messages.{given_of, request};
 ghost use Rattle.psg_server.specs.declared.methods.Call.TheVariants as calls;
@@ -9,12 +11,13 @@ ghost use Rattle.psg_server.specs.Answering as answering;
 ghost use Rattle.psg_server.specs.Methods.{call_of};
 
 use crate::fields::{naming_in, wants_declaring};
-use crate::linking::{Unnamed, document_naming, document_reply, words};
+use crate::judging::Defined;
+use crate::linking::document_reply;
 use crate::methods::Ask;
+use crate::renaming::{Unnamed, document_naming, words};
 use crate::server::{Reply, Server, answered, refused};
 use psg_grammar::Kind;
 use psg_messages::{Fault, Params, refusal};
-use psg_specimen::Language;
 use psg_terms::Steps;
 use serde_json::Value;
 use std::alloc::{AllocError, Global};
@@ -45,16 +48,17 @@ impl Server {
     pub(crate) fn ask<L: Ledger>(
         &self,
         alloc: Global,
-        language: &Language,
+        defined: &Defined,
         kind: Kind,
         ask: Ask,
         id: &Value,
         given: Params<'_>,
         steps: &mut Steps<L>,
     ) -> Result<Reply, AllocError>
-        requires { HasKind language.now kind }
+        requires kind { HasKind defined.now.language kind }
+        requires fit { IsCommentOf (fixed_words defined.now.language) defined.now.comment }
         ensures { IfOk result (λ r. (method : List ℕ) → call_of method ≡ Some (calls.Asking ask)
-            → Serves language.now kind self.now (request (view id.now) method (given_of given.entry))
+            → Serves defined.now kind self.now (request (view id.now) method (given_of given.entry))
             self.now.encoding self.now.documents (out_of r)) }
     {
         match self.place_in(given) {
@@ -64,7 +68,7 @@ impl Server {
                 let all = wants_declaring(given);
                 let value = document_reply(
                     alloc,
-                    language,
+                    defined,
                     kind,
                     self.encoding,
                     document,
@@ -87,15 +91,16 @@ impl Server {
     pub(crate) fn rename<L: Ledger>(
         &self,
         alloc: Global,
-        language: &Language,
+        defined: &Defined,
         kind: Kind,
         id: &Value,
         given: Params<'_>,
         steps: &mut Steps<L>,
     ) -> Result<Reply, AllocError>
-        requires { HasKind language.now kind }
+        requires kind { HasKind defined.now.language kind }
+        requires fit { IsCommentOf (fixed_words defined.now.language) defined.now.comment }
         ensures { IfOk result (λ r. (method : List ℕ) → call_of method ≡ Some calls.Renaming
-            → Serves language.now kind self.now (request (view id.now) method (given_of given.entry))
+            → Serves defined.now kind self.now (request (view id.now) method (given_of given.entry))
             self.now.encoding self.now.documents (out_of r)) }
     {
         let Some(document) = self.open_in(given) else {
@@ -106,7 +111,7 @@ impl Server {
             Some(naming) => {
                 let named = document_naming(
                     alloc,
-                    language,
+                    defined,
                     kind,
                     self.encoding,
                     document,

@@ -3,6 +3,8 @@ ghost use Rattle.std.specs.Prelude.{ℕ, ◌≡◌, [], List, IfOk, OnErr, Some}
 ghost use Rattle.std.specs.Option.{option_map};
 ghost use Rattle.serde_json.specs.View.{view};
 ghost use Rattle.psg_documents.specs.declared.encoding.Encoding.TheVariants as encodings;
+ghost use Rattle.psg_defcomment.specs.Reading.{IsCommentOf};
+ghost use Rattle.psg_grammar.specs.WellFormed.{fixed_words};
 ghost use Rattle.psg_grammar.specs.Kinds.{HasKind};
 ghost use Rattle.psg_messages.specs.Messages.{given_of, note, request, said_of};
 ghost use Rattle.psg_messages.specs.Turns.{due, served};
@@ -12,31 +14,25 @@ ghost use Rattle.psg_server.specs.declared.methods.Call.TheVariants as calls;
 ghost use Rattle.psg_server.specs.declared.methods.Notice.TheVariants as notices;
 ghost use Rattle.psg_server.specs.Answering.{Answers, Gets, Serves, out_of, reason_of};
 ghost use Rattle.psg_server.specs.Answering as answering;
-ghost use Rattle.psg_server.specs.Fields.{changed_in, changes_in, text_after};
-ghost use Rattle.psg_server.specs.Kept.{IsClosed, IsKept};
-ghost use Rattle.psg_server.specs.Told.{document_of, place_of};
+ghost use Rattle.psg_server.specs.Told.{place_of};
 ghost use Rattle.psg_messages.specs.Answers.{answer_of};
-ghost use Rattle.psg_grammar.specs.declared.types.Definition.{Definition as Plain};
+ghost use Rattle.psg_server.specs.declared.judging.Defined.{Defined as Plain};
 ghost use Rattle.psg_grammar.specs.declared.types.Kind.{Kind as PlainKind};
 ghost use Rattle.psg_server.specs.Methods.{call_of, is_known, notice_of};
 
 use crate::capabilities::greeting;
-use crate::diagnostics::{cleared, published};
 use crate::documents::{Document, Documents};
 use crate::edits::{document_edits, null_value};
-use crate::fields::{
-    Told, address_in, encoding_in, has_no_changes, last_text_in, opened_in, position_in,
-    version_after,
-};
+use crate::fields::{address_in, encoding_in, position_in};
 use crate::hovering::document_hover;
+use crate::judging::Defined;
 use crate::methods::{Call, Notice, call_of, is_known, notice_of};
 use psg_documents::{Encoding, Position};
 use psg_grammar::Kind;
 use psg_messages::{
     Fault, Message, Params, Phase, Turn, answer, message_of, parsed, phase_after, refusal, turn_of,
 };
-use psg_specimen::Language;
-use psg_terms::{Steps, Txt};
+use psg_terms::Steps;
 use serde_json::Value;
 use std::alloc::{AllocError, Global};
 use std::sync::ledger::Ledger;
@@ -57,7 +53,7 @@ pub enum Reply {
 pub struct Server {
     phase: Phase,
     pub(crate) encoding: Encoding,
-    documents: Documents,
+    pub(crate) documents: Documents,
 }
 
 /// A position of a document.
@@ -94,72 +90,6 @@ pub(crate) fn answered(alloc: Global, id: &Value, value: Value) -> Result<Reply,
 {
     let value = answer(alloc, id, value)?;
     Ok(Reply::Sent(value))
-}
-
-/// Returns the document that `didOpen` names.
-fn opened(alloc: Global, told: Told<'_>) -> Result<Document, AllocError>
-    ensures { IfOk result (λ d. d ≡ document_of told.entry) }
-{
-    let address = Txt::copy_of(alloc, told.address)?;
-    let text = Txt::copy_of(alloc, told.text)?;
-    Ok(Document {
-        address,
-        version: told.version,
-        text: Some(text),
-    })
-}
-
-/// Returns the text once more, if there is one.
-fn shared(text: &Option<Txt>) -> Result<Option<Txt>, AllocError>
-    ensures { IfOk result (λ o. o ≡ text.now) }
-{
-    match text {
-        Some(text) => {
-            let one = text.share()?;
-            Ok(Some(one))
-        }
-        None => Ok(None),
-    }
-}
-
-/// Returns a copy of the text, if there is one.
-fn copied(alloc: Global, text: Option<&str>) -> Result<Option<Txt>, AllocError>
-    ensures { IfOk result (λ o. o ≡ option_map (λ t. t.now) text.entry) }
-{
-    match text {
-        Some(text) => {
-            let one = Txt::copy_of(alloc, text)?;
-            Ok(Some(one))
-        }
-        None => Ok(None),
-    }
-}
-
-/// Returns the text of a document after `didChange`.
-fn text_after(
-    alloc: Global,
-    before: &Option<Txt>,
-    given: Params<'_>,
-) -> Result<Option<Txt>, AllocError>
-    ensures { IfOk result (λ o. o ≡ text_after (changes_in (given_of given.entry)) before.now) }
-{
-    if has_no_changes(given) {
-        return shared(before);
-    }
-    copied(alloc, last_text_in(given))
-}
-
-/// Returns a document after `didChange`.
-fn changed(alloc: Global, before: &Document, given: Params<'_>) -> Result<Document, AllocError>
-    ensures { IfOk result (λ d. d ≡ changed_in (given_of given.entry) before.now) }
-{
-    let address = before.address.share()?;
-    let text = text_after(alloc, &before.text, given)?;
-    Ok(Document {
-        address,
-        version: version_after(given, before.version),
-        text,
-    })
 }
 
 impl Server {
@@ -210,7 +140,7 @@ impl Server {
     }
 
     /// Serves `exit`.
-    fn leave(&self, _given: Params<'_>) -> Reply
+    pub(crate) fn leave(&self, _given: Params<'_>) -> Reply
         ensures { (def : Plain) (kind : PlainKind) (method : List ℕ) → notice_of method ≡ Some notices.Exit
             → Serves def kind self.now (note method (given_of _given.entry))
             self.now.encoding self.now.documents (out_of result) }
@@ -222,20 +152,21 @@ impl Server {
     fn format<L: Ledger>(
         &self,
         alloc: Global,
-        language: &Language,
+        defined: &Defined,
         kind: Kind,
         id: &Value,
         given: Params<'_>,
         steps: &mut Steps<L>,
     ) -> Result<Reply, AllocError>
-        requires { HasKind language.now kind }
+        requires kind { HasKind defined.now.language kind }
+        requires fit { IsCommentOf (fixed_words defined.now.language) defined.now.comment }
         ensures { IfOk result (λ r. (method : List ℕ) → call_of method ≡ Some calls.Formatting
-            → Serves language.now kind self.now (request (view id.now) method (given_of given.entry))
+            → Serves defined.now kind self.now (request (view id.now) method (given_of given.entry))
             self.now.encoding self.now.documents (out_of r)) }
     {
         match self.open_in(given) {
             Some(document) => {
-                let edits = document_edits(alloc, language, kind, self.encoding, document, steps)?;
+                let edits = document_edits(alloc, defined, kind, self.encoding, document, steps)?;
                 let reply = answered(alloc, id, edits)?;
                 Ok(reply)
             }
@@ -259,15 +190,16 @@ impl Server {
     fn hover<L: Ledger>(
         &self,
         alloc: Global,
-        language: &Language,
+        defined: &Defined,
         kind: Kind,
         id: &Value,
         given: Params<'_>,
         steps: &mut Steps<L>,
     ) -> Result<Reply, AllocError>
-        requires { HasKind language.now kind }
+        requires kind { HasKind defined.now.language kind }
+        requires fit { IsCommentOf (fixed_words defined.now.language) defined.now.comment }
         ensures { IfOk result (λ r. (method : List ℕ) → call_of method ≡ Some calls.Hover
-            → Serves language.now kind self.now (request (view id.now) method (given_of given.entry))
+            → Serves defined.now kind self.now (request (view id.now) method (given_of given.entry))
             self.now.encoding self.now.documents (out_of r)) }
     {
         match self.place_in(given) {
@@ -276,7 +208,7 @@ impl Server {
                 let position = place.position;
                 let told = document_hover(
                     alloc,
-                    language,
+                    defined,
                     kind,
                     self.encoding,
                     document,
@@ -297,16 +229,17 @@ impl Server {
     fn serve_call<L: Ledger>(
         &mut self,
         alloc: Global,
-        language: &Language,
+        defined: &Defined,
         kind: Kind,
         call: Call,
         id: &Value,
         given: Params<'_>,
         steps: &mut Steps<L>,
     ) -> Result<Reply, AllocError>
-        requires { HasKind language.now kind }
+        requires kind { HasKind defined.now.language kind }
+        requires fit { IsCommentOf (fixed_words defined.now.language) defined.now.comment }
         ensures served { IfOk result (λ r. (method : List ℕ) → call_of method ≡ Some call
-            → Serves language.now kind self.old (request (view id.now) method (given_of given.entry))
+            → Serves defined.now kind self.old (request (view id.now) method (given_of given.entry))
             self.new.encoding self.new.documents (out_of r)) }
         ensures phase { self.new.phase ≡ self.old.phase }
         ensures memory { OnErr result (self.new ≡ self.old) }
@@ -321,180 +254,23 @@ impl Server {
                 Ok(reply)
             }
             Call::Formatting => {
-                let reply = self.format(alloc, language, kind, id, given, steps)?;
+                let reply = self.format(alloc, defined, kind, id, given, steps)?;
                 Ok(reply)
             }
             Call::Hover => {
-                let reply = self.hover(alloc, language, kind, id, given, steps)?;
+                let reply = self.hover(alloc, defined, kind, id, given, steps)?;
                 Ok(reply)
             }
             Call::Completion => {
-                let reply = self.complete(alloc, language, kind, id, given, steps)?;
+                let reply = self.complete(alloc, defined, kind, id, given, steps)?;
                 Ok(reply)
             }
             Call::Asking(ask) => {
-                let reply = self.ask(alloc, language, kind, ask, id, given, steps)?;
+                let reply = self.ask(alloc, defined, kind, ask, id, given, steps)?;
                 Ok(reply)
             }
             Call::Renaming => {
-                let reply = self.rename(alloc, language, kind, id, given, steps)?;
-                Ok(reply)
-            }
-        }
-    }
-
-    /// Keeps the document, and publishes what is found in it.
-    fn keep<L: Ledger>(
-        &mut self,
-        alloc: Global,
-        language: &Language,
-        kind: Kind,
-        document: Document,
-        steps: &mut Steps<L>,
-    ) -> Result<Reply, AllocError>
-        requires kind { HasKind language.now kind }
-        requires quiet_kind { IsDeclaringPhylum language.now kind → ⊥ }
-        ensures kept { IfOk result (λ r. IsKept language.now kind document self.old self.new (out_of r)) }
-        ensures memory { OnErr result (self.new ≡ self.old) }
-    {
-        let value = published(alloc, language, kind, self.encoding, &document, steps)?;
-        self.documents.put(document)?;
-        Ok(Reply::Sent(value))
-    }
-
-    /// Serves `textDocument/didOpen`.
-    fn open<L: Ledger>(
-        &mut self,
-        alloc: Global,
-        language: &Language,
-        kind: Kind,
-        given: Params<'_>,
-        steps: &mut Steps<L>,
-    ) -> Result<Reply, AllocError>
-        requires kind { HasKind language.now kind }
-        requires quiet_kind { IsDeclaringPhylum language.now kind → ⊥ }
-        ensures served { IfOk result (λ r. (method : List ℕ) → notice_of method ≡ Some notices.Opened
-            → Serves language.now kind self.old (note method (given_of given.entry))
-            self.new.encoding self.new.documents (out_of r)) }
-        ensures phase { self.new.phase ≡ self.old.phase }
-        ensures memory { OnErr result (self.new ≡ self.old) }
-    {
-        match opened_in(given) {
-            Some(told) => {
-                let document = opened(alloc, told)?;
-                let reply = self.keep(alloc, language, kind, document, steps)?;
-                Ok(reply)
-            }
-            None => Ok(Reply::Nothing),
-        }
-    }
-
-    /// Returns the document that `didChange` names as it is then, if it is open.
-    fn changed(&self, alloc: Global, given: Params<'_>) -> Result<Option<Document>, AllocError>
-        ensures { IfOk result (λ o. o
-            ≡ option_map (changed_in (given_of given.entry))
-            (answering.open_in (given_of given.entry) self.now.documents)) }
-    {
-        match self.open_in(given) {
-            Some(before) => {
-                let document = changed(alloc, before, given)?;
-                Ok(Some(document))
-            }
-            None => Ok(None),
-        }
-    }
-
-    /// Serves `textDocument/didChange`.
-    fn change<L: Ledger>(
-        &mut self,
-        alloc: Global,
-        language: &Language,
-        kind: Kind,
-        given: Params<'_>,
-        steps: &mut Steps<L>,
-    ) -> Result<Reply, AllocError>
-        requires kind { HasKind language.now kind }
-        requires quiet_kind { IsDeclaringPhylum language.now kind → ⊥ }
-        ensures served { IfOk result (λ r. (method : List ℕ) → notice_of method ≡ Some notices.Changed
-            → Serves language.now kind self.old (note method (given_of given.entry))
-            self.new.encoding self.new.documents (out_of r)) }
-        ensures phase { self.new.phase ≡ self.old.phase }
-        ensures memory { OnErr result (self.new ≡ self.old) }
-    {
-        let found = self.changed(alloc, given)?;
-        match found {
-            Some(document) => {
-                let reply = self.keep(alloc, language, kind, document, steps)?;
-                Ok(reply)
-            }
-            None => Ok(Reply::Nothing),
-        }
-    }
-
-    /// Takes away the document with the address, if it is open.
-    fn close_at(&mut self, alloc: Global, address: &str) -> Result<Reply, AllocError>
-        ensures closed { IfOk result (λ r. IsClosed address.now self.old self.new (out_of r)) }
-        ensures memory { OnErr result (self.new ≡ self.old) }
-    {
-        if !self.documents.has(address) {
-            return Ok(Reply::Nothing);
-        }
-        let value = cleared(alloc, address)?;
-        self.documents.close(address);
-        Ok(Reply::Sent(value))
-    }
-
-    /// Serves `textDocument/didClose`.
-    fn close(&mut self, alloc: Global, given: Params<'_>) -> Result<Reply, AllocError>
-        ensures served { IfOk result (λ r. (def : Plain) (kind : PlainKind) (method : List ℕ)
-            → notice_of method ≡ Some notices.Closed
-            → Serves def kind self.old (note method (given_of given.entry))
-            self.new.encoding self.new.documents (out_of r)) }
-        ensures phase { self.new.phase ≡ self.old.phase }
-        ensures memory { OnErr result (self.new ≡ self.old) }
-    {
-        match address_in(given) {
-            Some(address) => {
-                let reply = self.close_at(alloc, address)?;
-                Ok(reply)
-            }
-            None => Ok(Reply::Nothing),
-        }
-    }
-
-    /// Serves a note.
-    fn serve_notice<L: Ledger>(
-        &mut self,
-        alloc: Global,
-        language: &Language,
-        kind: Kind,
-        notice: Notice,
-        given: Params<'_>,
-        steps: &mut Steps<L>,
-    ) -> Result<Reply, AllocError>
-        requires kind { HasKind language.now kind }
-        requires quiet_kind { IsDeclaringPhylum language.now kind → ⊥ }
-        ensures served { IfOk result (λ r. (method : List ℕ) → notice_of method ≡ Some notice
-            → Serves language.now kind self.old (note method (given_of given.entry))
-            self.new.encoding self.new.documents (out_of r)) }
-        ensures phase { self.new.phase ≡ self.old.phase }
-        ensures memory { OnErr result (self.new ≡ self.old) }
-    {
-        match notice {
-            Notice::Opened => {
-                let reply = self.open(alloc, language, kind, given, steps)?;
-                Ok(reply)
-            }
-            Notice::Changed => {
-                let reply = self.change(alloc, language, kind, given, steps)?;
-                Ok(reply)
-            }
-            Notice::Closed => {
-                let reply = self.close(alloc, given)?;
-                Ok(reply)
-            }
-            Notice::Exit => {
-                let reply = self.leave(given);
+                let reply = self.rename(alloc, defined, kind, id, given, steps)?;
                 Ok(reply)
             }
         }
@@ -504,15 +280,16 @@ impl Server {
     fn serve<L: Ledger>(
         &mut self,
         alloc: Global,
-        language: &Language,
+        defined: &Defined,
         kind: Kind,
         message: &Message<'_>,
         steps: &mut Steps<L>,
     ) -> Result<Reply, AllocError>
-        requires kind { HasKind language.now kind }
-        requires quiet_kind { IsDeclaringPhylum language.now kind → ⊥ }
+        requires kind { HasKind defined.now.language kind }
+        requires fit { IsCommentOf (fixed_words defined.now.language) defined.now.comment }
+        requires quiet_kind { IsDeclaringPhylum defined.now.language kind → ⊥ }
         requires due { due self.old.phase (is_known (said_of message.now)) (said_of message.now) ≡ served }
-        ensures served { IfOk result (λ r. Serves language.now kind self.old (said_of message.now)
+        ensures served { IfOk result (λ r. Serves defined.now kind self.old (said_of message.now)
             self.new.encoding self.new.documents (out_of r)) }
         ensures phase { self.new.phase ≡ self.old.phase }
         ensures memory { OnErr result (self.new ≡ self.old) }
@@ -520,14 +297,14 @@ impl Server {
         match *message {
             Message::Request { id, method, given } => match call_of(method) {
                 Some(call) => {
-                    let reply = self.serve_call(alloc, language, kind, call, id, given, steps)?;
+                    let reply = self.serve_call(alloc, defined, kind, call, id, given, steps)?;
                     Ok(reply)
                 }
                 None => unreachable!(),
             },
             Message::Note { method, given } => match notice_of(method) {
                 Some(notice) => {
-                    let reply = self.serve_notice(alloc, language, kind, notice, given, steps)?;
+                    let reply = self.serve_notice(alloc, defined, kind, notice, given, steps)?;
                     Ok(reply)
                 }
                 None => unreachable!(),
@@ -541,14 +318,15 @@ impl Server {
     fn take<L: Ledger>(
         &mut self,
         alloc: Global,
-        language: &Language,
+        defined: &Defined,
         kind: Kind,
         message: &Message<'_>,
         steps: &mut Steps<L>,
     ) -> Result<Reply, AllocError>
-        requires kind { HasKind language.now kind }
-        requires quiet_kind { IsDeclaringPhylum language.now kind → ⊥ }
-        ensures gets { IfOk result (λ r. Gets language.now kind self.old (said_of message.now) self.new (out_of r)) }
+        requires kind { HasKind defined.now.language kind }
+        requires fit { IsCommentOf (fixed_words defined.now.language) defined.now.comment }
+        requires quiet_kind { IsDeclaringPhylum defined.now.language kind → ⊥ }
+        ensures gets { IfOk result (λ r. Gets defined.now kind self.old (said_of message.now) self.new (out_of r)) }
         ensures memory { OnErr result (self.new ≡ self.old) }
     {
         let turn = turn_of(self.phase, is_known(message), message);
@@ -559,27 +337,29 @@ impl Server {
                 Ok(reply)
             }
             Turn::Serve => {
-                let reply = self.serve(alloc, language, kind, message, steps)?;
+                let reply = self.serve(alloc, defined, kind, message, steps)?;
                 self.phase = phase_after(self.phase, &turn, message);
                 Ok(reply)
             }
         }
     }
 
-    /// Takes the body of the next frame, and returns what follows from it. Documents are to be programs of the kind.
+    /// Takes the body of the next frame, and returns what follows from it. Documents are to be programs of the kind, and
+    /// may have comments where the language has a token for them.
     /// Fails only when out of memory, and the server is then as before. A message with a text takes the time of a
     /// report of it, or of its printing, and all others take a step for each byte.
     pub fn answer<L: Ledger>(
         &mut self,
         alloc: Global,
-        language: &Language,
+        defined: &Defined,
         kind: Kind,
         body: &[u8],
         steps: &mut Steps<L>,
     ) -> Result<Reply, AllocError>
-        requires kind { HasKind language.now kind }
-        requires quiet_kind { IsDeclaringPhylum language.now kind → ⊥ }
-        ensures answered { IfOk result (λ r. Answers language.now kind body.now self.old self.new (out_of r)) }
+        requires kind { HasKind defined.now.language kind }
+        requires fit { IsCommentOf (fixed_words defined.now.language) defined.now.comment }
+        requires quiet_kind { IsDeclaringPhylum defined.now.language kind → ⊥ }
+        ensures answered { IfOk result (λ r. Answers defined.now kind body.now self.old self.new (out_of r)) }
         ensures memory { OnErr result (self.new ≡ self.old) }
     {
         let found = parsed(alloc, body)?;
@@ -590,7 +370,7 @@ impl Server {
             }
             Some(value) => {
                 let message = message_of(&value);
-                let reply = self.take(alloc, language, kind, &message, steps)?;
+                let reply = self.take(alloc, defined, kind, &message, steps)?;
                 Ok(reply)
             }
         }

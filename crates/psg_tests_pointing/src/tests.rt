@@ -14,12 +14,12 @@ use std::marker::Brand;
 use std::sync::ledger::{Blank, Ledger};
 use std::test::Fail;
 
-/// Returns the language MINI.
-fn mini(alloc: Global) -> Result<Language, AllocError> {
-    if MINI.len() >= 1_048_576 {
+/// Returns the language of the definition.
+fn language_of(alloc: Global, text: &str) -> Result<Language, AllocError> {
+    if text.len() >= 1_048_576 {
         return Err(AllocError);
     }
-    let Ok(read) = read_definition(alloc, MINI.as_bytes()) else {
+    let Ok(read) = read_definition(alloc, text.as_bytes()) else {
         return Err(AllocError);
     };
     match accept(alloc, read) {
@@ -175,7 +175,7 @@ const HOVERS: &[(&str, usize, &str)] = &[
 #[test]
 fn nodes_are_told(rt: HostRuntime) -> Result<(), Fail> {
     let alloc = rt.alloc();
-    let language = mini(alloc)?;
+    let language = language_of(alloc, MINI)?;
     for row in HOVERS {
         let told = told_in(alloc, &language, row.0, row.1)?;
         assert_eq!(&rt; told.as_str(), row.2);
@@ -191,11 +191,33 @@ const ENTRIES: &[(&str, usize, &str)] = &[
         46,
         "44-48 [][] ref=n|tru=true|not=not ?Exp|cat=?Exp & ?Exp|eq=?Exp = ?Exp|idx=?Exp[?Exp]|",
     ),
-    // no name begins so
+    // no name begins so: all that fit
     (
         "begin\n  var n : bool\ndo\n  n := true;\n  n := tr\nend",
         46,
-        "44-46 [][] tru=true|not=not ?Exp|cat=?Exp & ?Exp|eq=?Exp = ?Exp|idx=?Exp[?Exp]|",
+        "44-46 [][] ref=n|tru=true|not=not ?Exp|cat=?Exp & ?Exp|eq=?Exp = ?Exp|idx=?Exp[?Exp]|",
+    ),
+    // of two names that fit one begins so
+    (
+        "begin\n  var n : bool;\n  var m : bool\ndo\n  n := true;\n  n := m\nend",
+        61,
+        "60-61 [][] ref=m|tru=true|not=not ?Exp|cat=?Exp & ?Exp|eq=?Exp = ?Exp|idx=?Exp[?Exp]|",
+    ),
+    // a `?` alone, after it and at it, and a `?` with the beginning of a word
+    (
+        "begin\n  var n : bool\ndo\n  n := true;\n  n := ?\nend",
+        45,
+        "44-45 [][] ref=n|tru=true|not=not ?Exp|cat=?Exp & ?Exp|eq=?Exp = ?Exp|idx=?Exp[?Exp]|",
+    ),
+    (
+        "begin\n  var n : bool\ndo\n  n := true;\n  n := ?\nend",
+        44,
+        "44-45 [][] ref=n|tru=true|not=not ?Exp|cat=?Exp & ?Exp|eq=?Exp = ?Exp|idx=?Exp[?Exp]|",
+    ),
+    (
+        "begin\n  var n : bool\ndo\n  n := true;\n  n := ?E\nend",
+        46,
+        "44-46 [][] ref=n|tru=true|not=not ?Exp|cat=?Exp & ?Exp|eq=?Exp = ?Exp|idx=?Exp[?Exp]|",
     ),
     // what binds less than `not` is in brackets
     (
@@ -215,17 +237,26 @@ const ENTRIES: &[(&str, usize, &str)] = &[
         33,
         "31-35 [ ][] ref=n|tru=true|not=not ?Exp|cat=?Exp & ?Exp|eq=?Exp = ?Exp|idx=?Exp[?Exp]|",
     ),
-    // a statement after another, with the separator that is missing
+    // a statement after another, with the separator that is missing; no name fits a call yet
     (
         "begin\n  var n : bool\ndo\n  n := true\n  \nend",
         38,
-        "38-38 [; ][] block=begin ... do ... end|assign=n := ?Exp|while=while ?Exp do ... od|skip=skip|",
+        "38-38 [; ][] block=begin ... do ... end|assign=n := ?Exp|call=call name(...)|\
+        while=while ?Exp do ... od|skip=skip|",
     ),
     // a statement before another; the variable does not begin so
     (
         "begin\n  var n : bool\ndo\n  sk\n  n := true\nend",
         28,
-        "26-28 [][ ;] block=begin ... do ... end|while=while ?Exp do ... od|skip=skip|",
+        "26-28 [][ ;] block=begin ... do ... end|assign=n := ?Exp|call=call name(...)|\
+        while=while ?Exp do ... od|skip=skip|",
+    ),
+    // the beginning of an operator's own word
+    (
+        "begin\n  proc p() skip\ndo\n  cal\nend",
+        30,
+        "27-30 [][] block=begin ... do ... end|assign=name := ?Exp|call=call p(...)|\
+        while=while ?Exp do ... od|skip=skip|",
     ),
     // nothing reads there
     ("begin (", 7, "7-7 [][] "),
@@ -234,10 +265,23 @@ const ENTRIES: &[(&str, usize, &str)] = &[
 #[test]
 fn entries_are_told(rt: HostRuntime) -> Result<(), Fail> {
     let alloc = rt.alloc();
-    let language = mini(alloc)?;
+    let language = language_of(alloc, MINI)?;
     for row in ENTRIES {
         let made = put_in(alloc, &language, row.0, row.1)?;
         assert_eq!(&rt; made.as_str(), row.2);
     }
+    Ok(())
+}
+
+/// A language in which `name` and `name_` are fixed words.
+const NAMED: &str = "psg 1\nsort Unit = ok\nsort Ent = var\nentity Ent\nphylum Item : Unit\n\
+    op use : Item = \"name\" refers\nrow ok : var\nop two : Item = \"name_\"\nrow ok\nhole Item ok by two\n";
+
+#[test]
+fn samples_are_names(rt: HostRuntime) -> Result<(), Fail> {
+    let alloc = rt.alloc();
+    let language = language_of(alloc, NAMED)?;
+    let made = put_in(alloc, &language, "na", 2)?;
+    assert_eq!(&rt; made.as_str(), "0-2 [][] use=name name__|two=name_|");
     Ok(())
 }

@@ -1,21 +1,25 @@
 //! A conversation on MINI.
-ghost use Rattle.std.specs.Prelude.{◌≡◌, ◌<◌};
+ghost use Rattle.std.specs.Prelude.{◌≡◌, ◌<◌, IfOk};
+ghost use Rattle.psg_defcomment.specs.Reading.{IsCommentOf};
+ghost use Rattle.psg_grammar.specs.WellFormed.{fixed_words};
 ghost use Rattle.psg_grammar.specs.Kinds.{HasKind};
 ghost use Rattle.psg_specimen.specs.Languages.{IsDeclaringPhylum};
 
 use psg_defread::read_definition;
 use psg_grammar::Kind;
 use psg_langs::MINI;
-use psg_server::{Reply, Server};
-use psg_specimen::{Language, accept};
+use psg_server::{Defined, Reply, Server};
+use psg_specimen::accept;
 use psg_terms::Steps;
 use std::alloc::{AllocError, Global};
 use std::marker::Brand;
 use std::sync::ledger::{Blank, Ledger};
 use std::test::Fail;
 
-/// The language that the text defines.
-fn language(alloc: Global, text: &str) -> Result<Language, AllocError> {
+/// The language that the text defines, without comments.
+fn defined(alloc: Global, text: &str) -> Result<Defined, AllocError>
+    ensures { IfOk result (λ d. IsCommentOf (fixed_words d.language) d.comment) }
+{
     if text.len() >= 1_048_576 {
         return Err(AllocError);
     }
@@ -23,7 +27,10 @@ fn language(alloc: Global, text: &str) -> Result<Language, AllocError> {
         return Err(AllocError);
     };
     match accept(alloc, definition) {
-        Ok(language) => Ok(language),
+        Ok(language) => Ok(Defined {
+            language,
+            comment: None,
+        }),
         Err(_) => Err(AllocError),
     }
 }
@@ -89,12 +96,13 @@ fn write_reply(alloc: Global, out: &mut String, reply: Reply) -> Result<(), Allo
 /// What comes of the bodies.
 fn counted<L: Ledger>(
     alloc: Global,
-    language: &Language,
+    defined: &Defined,
     kind: Kind,
     ledger: Blank,
 ) -> Result<String, AllocError>
-    requires kind { HasKind language.now kind }
-    requires quiet_kind { IsDeclaringPhylum language.now kind → ⊥ }
+    requires kind { HasKind defined.now.language kind }
+    requires fit { IsCommentOf (fixed_words defined.now.language) defined.now.comment }
+    requires quiet_kind { IsDeclaringPhylum defined.now.language kind → ⊥ }
     requires name { ledger.name ≡ L.name }
     requires parts { ledger.parts ≡ L.parts }
     requires some { 0 < L.parts }
@@ -103,14 +111,17 @@ fn counted<L: Ledger>(
     let mut server = Server::new(alloc);
     let mut out = String::new(alloc);
     for body in BODIES {
-        let reply = server.answer(alloc, language, kind, body.as_bytes(), &mut steps)?;
+        let reply = server.answer(alloc, defined, kind, body.as_bytes(), &mut steps)?;
         write_reply(alloc, &mut out, reply)?;
     }
     Ok(out)
 }
 
 /// What comes of the bodies, where documents are trees of the phylum of the number.
-fn played(alloc: Global, language: &Language, phylum: u32) -> Result<String, AllocError> {
+fn played(alloc: Global, defined: &Defined, phylum: u32) -> Result<String, AllocError>
+    requires fit { IsCommentOf (fixed_words defined.now.language) defined.now.comment }
+{
+    let language = &defined.language;
     if phylum as usize >= language.definition().phyla.as_slice().len() {
         return Err(AllocError);
     }
@@ -118,13 +129,13 @@ fn played(alloc: Global, language: &Language, phylum: u32) -> Result<String, All
     if language.is_declaring(kind) {
         return Err(AllocError);
     }
-    counted::<Brand>(alloc, language, kind, Blank::new(1))
+    counted::<Brand>(alloc, defined, kind, Blank::new(1))
 }
 
 #[test]
 fn conversation(rt: HostRuntime) -> Result<(), Fail> {
     let alloc = rt.alloc();
-    let mini = language(alloc, MINI)?;
+    let mini = defined(alloc, MINI)?;
     let own = played(alloc, &mini, 0)?;
     assert_eq!(rt; own.as_str(), COME);
     Ok(())

@@ -35,6 +35,8 @@ function psg.attach(options, language, buffer)
   local client = start(options, language)
   if client then
     vim.lsp.buf_attach_client(buffer, client)
+    -- the menu, at Ctrl-X Ctrl-O
+    vim.api.nvim_buf_set_option(buffer, "omnifunc", "v:lua.vim.lsp.omnifunc")
   end
   return client
 end
@@ -53,6 +55,8 @@ function psg.format(buffer)
 end
 
 function psg.setup(options)
+  -- a mistake is shown before a warning on the same line
+  vim.diagnostic.config({ severity_sort = true })
   local group = vim.api.nvim_create_augroup("psg", { clear = true })
   for _, language in ipairs(options.languages or {}) do
     vim.api.nvim_create_autocmd({ "BufReadPost", "BufNewFile" }, {

@@ -7,5 +7,5 @@ use Rattle.psg_completing.proofs.offering.offers_among.Given as goal
 abbrev pub invariant-loop-op : goal.invariant-loop-op
 invariant-loop-op g l =
     AreSoFar l.open.known.program.language.now l.open.known.program.kind (tree_in l.open.known.program.note.now)
-    l.open.spot.now l.open.least l.open.prefix.now (map string_bytes l.ops) (map string_bytes (drop l.op-index l.ops))
+    l.open.spot.now l.open.least l.open.sample.now l.open.prefix.now (map string_bytes l.ops) (map string_bytes (drop l.op-index l.ops))
     l.offers

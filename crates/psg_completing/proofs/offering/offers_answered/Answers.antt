@@ -13,7 +13,7 @@ returns-in_ok-offers-in-Ok g c =
     let def = gap.known.program.language.now in
     let kind = gap.known.program.kind in
     let tree = tree_in gap.known.program.note.now in
-    offered_for def kind tree gap.spot.now gap.least gap.prefix.now c.in_ok-offers-in-Ok.offers _ _
+    offered_for def kind tree gap.spot.now gap.least gap.sample.now gap.prefix.now c.in_ok-offers-in-Ok.offers _ _
     (ap (map string_bytes) c.as_slice-row.ensures.value ∙ answered_ok c.args.told c.in-Ok.ops c.in-Ok.is)
     c.in_ok-offers-in-Ok.ensures
 
@@ -23,5 +23,5 @@ returns-in-Err g c =
     let def = gap.known.program.language.now in
     let kind = gap.known.program.kind in
     let tree = tree_in gap.known.program.note.now in
-    nothing_of def kind tree gap.spot.now gap.least gap.prefix.now c.no_offers.result _
+    nothing_of def kind tree gap.spot.now gap.least gap.sample.now gap.prefix.now c.no_offers.result _
     (answered_err c.args.told _ c.in-Err.is) c.no_offers.ensures.entries c.no_offers.ensures.more

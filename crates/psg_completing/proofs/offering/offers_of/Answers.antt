@@ -21,7 +21,7 @@ pub returns-in-None : goal.returns-in-None
 returns-in-None g c =
     let gap = c.args.open in
     unknown_of gap.known.program.language.now gap.known.program.kind (tree_in gap.known.program.note.now)
-    gap.spot.now gap.least gap.prefix.now c.args.name.now c.no_offers.result
+    gap.spot.now gap.least gap.sample.now gap.prefix.now c.args.name.now c.no_offers.result
     (not_named gap.known.program.language.now c.definition-definition.result.now c.args.name.now c.op_named.result
     c.definition-definition.ensures.same c.op_named.ensures.only c.in-None.is)
     c.no_offers.ensures.entries c.no_offers.ensures.more

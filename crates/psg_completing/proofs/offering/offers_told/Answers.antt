@@ -11,7 +11,7 @@ returns-in_ok-offers-in-Some g c =
     let def = gap.known.program.language.now in
     let kind = gap.known.program.kind in
     let tree = tree_in gap.known.program.note.now in
-    offered_for def kind tree gap.spot.now gap.least gap.prefix.now c.in_ok-offers-in-Some.offers _ _
+    offered_for def kind tree gap.spot.now gap.least gap.sample.now gap.prefix.now c.in_ok-offers-in-Some.offers _ _
     (told_some c.args.read c.in-Some.told c.in-Some.is) c.in_ok-offers-in-Some.ensures
 
 pub returns-in-None : goal.returns-in-None
@@ -20,5 +20,5 @@ returns-in-None g c =
     let def = gap.known.program.language.now in
     let kind = gap.known.program.kind in
     let tree = tree_in gap.known.program.note.now in
-    nothing_of def kind tree gap.spot.now gap.least gap.prefix.now c.no_offers.result _
+    nothing_of def kind tree gap.spot.now gap.least gap.sample.now gap.prefix.now c.no_offers.result _
     (told_nothing c.args.read c.in-None.is) c.no_offers.ensures.entries c.no_offers.ensures.more

@@ -30,7 +30,7 @@ returns-then-named g c =
     let own = ap (λ d. operator_at d c.args.op) (sym c.definition-definition.ensures.same)
     ∙ c.operator_of-operator.ensures in
     let (told, told_is, names) = c.in_ok-names.ensures in
-    by_names_of def gap.known.program.kind (tree_in gap.known.program.note.now) gap.spot.now gap.least gap.prefix.now
+    by_names_of def gap.known.program.kind (tree_in gap.known.program.note.now) gap.spot.now gap.least gap.sample.now gap.prefix.now
     c.args.op c.operator_of-operator.result.now.name c.args.name.now told c.as_slice-all.result.now
     c.first_names-some.result.now c.in_ok-entries.entries.items c.has_more-more.result c.requires.name
     (own_name (operator_at def c.args.op) c.operator_of-operator.result.now c.args.name.now own c.requires.name)
@@ -46,7 +46,7 @@ returns g c =
     let def = gap.known.program.language.now in
     let own = ap (λ d. operator_at d c.args.op) (sym c.definition-definition.ensures.same)
     ∙ c.operator_of-operator.ensures in
-    by_itself_of def gap.known.program.kind (tree_in gap.known.program.note.now) gap.spot.now gap.least gap.prefix.now
+    by_itself_of def gap.known.program.kind (tree_in gap.known.program.note.now) gap.spot.now gap.least gap.sample.now gap.prefix.now
     c.args.op c.operator_of-operator.result.now.name c.args.name.now c.in_ok-single.single.items c.requires.name
     (own_name (operator_at def c.args.op) c.operator_of-operator.result.now c.args.name.now own c.requires.name)
     (ap one_name (sym (c.as_slice-row.ensures.value ∙ c.in_ok-leaves.ensures

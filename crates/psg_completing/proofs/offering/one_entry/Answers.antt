@@ -1,4 +1,4 @@
-use Rattle.std.proofs.Common.{◌∷◌, [], ◌++◌, ap, ◌∙◌}
+use Rattle.std.proofs.Common.{ap, ◌∙◌}
 use Rattle.psg_completing.specs.Offering.{entries_with}
 use Rattle.psg_completing.proofs.offering.one_entry.Goals as goal
 
@@ -9,6 +9,4 @@ pub returns : goal.returns
 returns c =
     c.in_ok-entries.ensures
     ∙ ap (entries_with c.args.open.known.program.language.now c.args.open.least c.args.operator.now.name c.args.op)
-    (c.as_slice-row.ensures.value ∙ c.in_ok-push.ensures.items
-    ∙ ap (λ l. l ++ c.in_ok-name.name ∷ []) c.new-names.ensures.items
-    ∙ ap (λ n. n ∷ []) c.in_ok-name.ensures)
+    (c.as_slice-row.ensures.value ∙ c.in_ok-names.ensures)

@@ -14,7 +14,7 @@ returns-clause-pairs c =
     (cut_by old new c.split_at.result.1.now c.split_at-2.result.1.now c.split_at-3.result.0.now c.split_at-4.result.0.now f b
     c.split_at.ensures.back c.split_at-2.ensures.back c.split_at-3.ensures.front c.split_at-4.ensures.front
     c.common_front-front.ensures.same c.common_back-back.ensures.same c.common_front-front.ensures.old
-    c.common_back-back.ensures.old c.common_front-front.ensures.apart)
+    c.common_back-back.ensures.old c.common_front-front.ensures.apart c.common_back-back.ensures.apart)
     c.in_ok-middle.middle.items c.push_steps-2.new.steps.items c.in_ok-middle.ensures.pairs
     (c.in_ok-push_steps-2.ensures ∙ ap (λ l. l ++ replicate b steps.Both)
     (c.in_ok-extend_from_slice.ensures.items ∙ ap (λ l. l ++ c.as_slice.result.now)
@@ -31,7 +31,7 @@ returns-clause-most c =
     (cut_by old new c.split_at.result.1.now c.split_at-2.result.1.now c.split_at-3.result.0.now c.split_at-4.result.0.now f b
     c.split_at.ensures.back c.split_at-2.ensures.back c.split_at-3.ensures.front c.split_at-4.ensures.front
     c.common_front-front.ensures.same c.common_back-back.ensures.same c.common_front-front.ensures.old
-    c.common_back-back.ensures.old c.common_front-front.ensures.apart)
+    c.common_back-back.ensures.old c.common_front-front.ensures.apart c.common_back-back.ensures.apart)
     c.in_ok-middle.middle.items c.push_steps-2.new.steps.items c.in_ok-middle.ensures.pairs
     (c.in_ok-push_steps-2.ensures ∙ ap (λ l. l ++ replicate b steps.Both)
     (c.in_ok-extend_from_slice.ensures.items ∙ ap (λ l. l ++ c.as_slice.result.now)

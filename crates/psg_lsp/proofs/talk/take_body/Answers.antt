@@ -12,9 +12,9 @@ returns-in-Ok g c =
     (λ put. (
       out_of c.in-Ok.reply,
       c.in-Ok.ensures.answered,
-      put (answers_plain c.args.language.now c.args.kind c.args.body.now c.args.server.now _ _ c.in-Ok.ensures.answered),
+      put (answers_plain c.args.defined.now c.args.kind c.args.body.now c.args.server.now _ _ c.in-Ok.ensures.answered),
     ))
-    (λ e ends. body_ends c.args.language.now c.args.kind c.args.body.now c.args.server.now _ _ _ _ e
+    (λ e ends. body_ends c.args.defined.now c.args.kind c.args.body.now c.args.server.now _ _ _ _ e
     c.in-Ok.ensures.answered ends)
     c.put_reply-done.ensures
 

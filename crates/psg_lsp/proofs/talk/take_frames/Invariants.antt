@@ -3,5 +3,5 @@ use Rattle.psg_lsp.proofs.talk.take_frames.Given as goal
 
 abbrev pub invariant-loop-place : goal.invariant-loop-place
 invariant-loop-place g l =
-    AreTakenTo l.language l.kind l.fn.server (g.O.Sink.written l.fn.out) l.frames l.place l.server
+    AreTakenTo l.defined l.kind l.fn.server (g.O.Sink.written l.fn.out) l.frames l.place l.server
     (g.O.Sink.written l.out)

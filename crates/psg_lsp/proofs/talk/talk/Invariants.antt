@@ -4,5 +4,5 @@ use Rattle.psg_lsp.proofs.talk.talk.Given as goal
 
 abbrev pub invariant-loop-turn : goal.invariant-loop-turn
 invariant-loop-turn g l =
-    IsTalking l.language l.kind (g.I.Pieces.left l.fn.input) (g.O.Sink.written l.fn.out)
+    IsTalking l.defined l.kind (g.I.Pieces.left l.fn.input) (g.O.Sink.written l.fn.out)
     (place_at (g.I.Pieces.left l.input) l.reader l.server (g.O.Sink.written l.out))

@@ -1,14 +1,15 @@
-use Rattle.std.proofs.Common.{◌≡◌, inl, inr, ◌∙◌, ◌+◌, ◌*◌, ◌<◌, ◌^◌, Bool, List, length, ap, sym, subst, arith}
+use Rattle.std.proofs.Common.{◌≡◌, inl, inr, ◌∙◌, ◌+◌, ◌*◌, ◌<◌, ◌^◌, Bool, true, false, cond, List, [], ◌∷◌, ◌++◌, replicate, length, ap, sym, subst, arith}
+use Rattle.std.proofs.lemmas.List.{append_assoc}
 use Rattle.psg_grammar.specs.Open.{IsOpen}
 use Rattle.psg_grammar.specs.Work.{work_of}
-use Rattle.psg_places.specs.Answers.{AreRounds, HasMore, IsBlameFault, IsNear, IsNextFound, next_tree, trials_work}
+use Rattle.psg_places.specs.Answers.{HasMore, IsBlameFault, IsNear, IsNextFound, next_tree, trials_work}
 use Rattle.psg_places.specs.declared.fault.BlameFault.TheVariants.{Memory}
 use Rattle.psg_places.specs.Blame.{most_blamed}
 use Rattle.psg_places.specs.NewNames.{new_name}
 use Rattle.psg_places.specs.Places.{place_count}
 use Rattle.psg_places.proofs.AnswerLaws.{all_answers, passed, stopped}
 use Rattle.psg_cache.specs.Annotated.{tree_in}
-use Rattle.psg_places.proofs.ClimbLaws.{IsRounding, rounding_end, rounding_first, rounding_next}
+use Rattle.psg_places.proofs.ClimbLaws.{IsOneRound, IsRounding, rounding_end, rounding_first, rounding_next}
 use Rattle.psg_places.proofs.FallingLaws.{open_falls}
 use Rattle.psg_places.proofs.NewNameLaws.{all_new}
 use Rattle.psg_places.proofs.SearchLaws.{IsKnown, due_more, found_ends, known_first, known_good, known_round, spent_end, spent_fault, spent_most}
@@ -22,7 +23,7 @@ places-init g c = record {
   rounds = λ h le.
       subst
       (λ (ks : List Bool). IsRounding c.args.definition.now c.args.front.now c.args.tree.now (tree_in c.args.old.now)
-      (tree_in c.in_ok-base.base) h (length ks) c.args.places 0 c.args.steps.now c.args.steps.now)
+      (tree_in c.in_ok-base.base) ks h c.args.places 0 c.args.steps.now c.args.steps.now)
       (sym c.new-kept.ensures.items)
       (rounding_first c.args.definition.now c.args.front.now c.args.tree.now (tree_in c.args.old.now)
       (tree_in c.in_ok-base.base) h c.args.places c.args.steps.now (ap tree_in c.in_ok-base.ensures));
@@ -104,11 +105,15 @@ places-preserved g c =
       known = known;
       near = c.in_ok-found.ensures.near;
       rounds = λ h le.
-          rounding_next def front f (tree_in c.args.old.now) (tree_in c.places.base) (tree_in found.all) h (length kept)
-          c.args.places c.places.blamed c.args.steps.now c.places.steps c.next_found.new.steps
-          (length c.add_found.new.kept.items) _ found.blamed (c.places.invariant.rounds h le) (omega (arith, due.0, long))
+          rounding_next def front f (tree_in c.args.old.now) (tree_in c.places.base) (tree_in found.all) kept
+          (replicate found.more true ++ cond found.blamed (false ∷ []) []) c.add_found.new.kept.items h c.args.places
+          c.places.blamed c.args.steps.now c.places.steps c.next_found.new.steps _ found.blamed
+          (c.in_ok-add_found.ensures
+          ∙ append_assoc kept (replicate found.more true) (cond found.blamed (false ∷ []) []))
+          (c.places.invariant.rounds h le) (omega (arith, due.0, long))
           (λ e. found_ends def front f kept c.add_found.new.kept.items found next c.in_ok-add_found.ensures e ∙ sym c.requires.count) count
-          (c.in_ok-found.ensures.round h le);
+          (subst (λ ks. IsOneRound def front f ks h (tree_in c.places.base) (tree_in found.all) c.places.steps c.next_found.new.steps)
+          c.as_slice-done.ensures.value (c.in_ok-found.ensures.round h le));
     }
 
 pub returns-in_err-found-clause-ticks : goal.returns-in_err-found-clause-ticks
@@ -129,7 +134,5 @@ pub returns-clause-climbs : goal.returns-clause-climbs
 returns-clause-climbs g c h le =
     let def = c.args.definition.now in
     let old = tree_in c.args.old.now in
-    subst (λ n. AreRounds def c.args.front.now c.args.tree.now old h (1 + n) c.args.steps.now c.places.steps)
-    c.places.invariant.known.count
-    (rounding_end def c.args.front.now c.args.tree.now old (tree_in c.places.base) h (length c.places.kept.items) c.args.places
-    c.places.blamed c.args.steps.now c.places.steps (c.places.invariant.rounds h le))
+    rounding_end def c.args.front.now c.args.tree.now old (tree_in c.places.base) c.places.kept.items h c.args.places
+    c.places.blamed c.args.steps.now c.places.steps c.places.invariant.known.count (c.places.invariant.rounds h le)

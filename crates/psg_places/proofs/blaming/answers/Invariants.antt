@@ -12,8 +12,8 @@ invariant-places g l =
       known : IsKnown l.definition l.front l.tree l.fn.places l.fn.steps l.steps (work_of l.tree) l.kept.items l.blamed;
       near : IsNear l.definition l.tree l.base;
       rounds : (h : ℕ) → l.fn.places ≤ 2 ^ h
-          → IsRounding l.definition l.front l.tree (tree_in l.old) (tree_in l.base) h (length l.kept.items) l.fn.places
-          l.blamed l.fn.steps l.steps;
+          → IsRounding l.definition l.front l.tree (tree_in l.old) (tree_in l.base) l.kept.items h l.fn.places l.blamed
+          l.fn.steps l.steps;
     }
 
 abbrev pub decreases-places : goal.decreases-places

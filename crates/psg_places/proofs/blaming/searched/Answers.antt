@@ -197,7 +197,7 @@ returns-then-not-nothing-clause-climbs g c h le = (
   c.tried.new.steps,
   (start_climb c.args.definition.now c.args.front c.args.tree.now (tree_in c.args.old.now) _ c.args.steps.now _ c.new-none.ensures.items
       c.tried.ensures.climb),
-  no_rounds c.args.definition.now c.args.front c.args.tree.now (tree_in c.args.old.now) h _ _,
+  no_rounds c.args.definition.now c.args.front c.args.tree.now (tree_in c.args.old.now) _ h _,
 )
 
 pub returns-clause-climbs : goal.returns-clause-climbs

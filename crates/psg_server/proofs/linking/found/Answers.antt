@@ -6,14 +6,14 @@ use Rattle.psg_server.proofs.linking.found.Goals as goal
 pub returns-in_ok-linked-in-Some : goal.returns-in_ok-linked-in-Some
 returns-in_ok-linked-in-Some g c =
     let def = c.args.language.now in
-    let text = c.args.sheet.now.text.now in
-    found_in def c.args.kind c.args.sheet.now.encoding text c.in-Some.page c.byte_at-byte.result
+    let judged = c.args.own.now.bytes.items in
+    found_in def c.args.kind c.args.sheet.now.encoding c.args.sheet.now.text.now judged c.in-Some.page c.byte_at-byte.result
     (MatchOption-at_some _ _ _ c.in-Some.is
-    (page_as def c.args.kind c.in_ok-read.read c.as_bytes-bytes.result.now text c.as_bytes-bytes.ensures.value c.in_ok-read.ensures))
+    (page_as def c.args.kind c.in_ok-read.read c.as_slice-bytes.result.now judged c.as_slice-bytes.ensures.value c.in_ok-read.ensures))
     c.args.at c.in_ok-linked-in-Some.linked c.byte_at-byte.ensures c.in_ok-linked-in-Some.ensures
 
 pub returns-in-None : goal.returns-in-None
 returns-in-None g c =
     no_program (MatchOption-at_none _ _ c.in-None.is
-    (page_as c.args.language.now c.args.kind c.in_ok-read.read c.as_bytes-bytes.result.now c.args.sheet.now.text.now
-    c.as_bytes-bytes.ensures.value c.in_ok-read.ensures))
+    (page_as c.args.language.now c.args.kind c.in_ok-read.read c.as_slice-bytes.result.now c.args.own.now.bytes.items
+    c.as_slice-bytes.ensures.value c.in_ok-read.ensures))

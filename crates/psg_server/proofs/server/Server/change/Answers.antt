@@ -5,7 +5,7 @@ use Rattle.psg_server.proofs.server.Server.change.Goals as goal
 
 pub returns-in_ok-reply-in-Some-clause-served : goal.returns-in_ok-reply-in-Some-clause-served
 returns-in_ok-reply-in-Some-clause-served g c = λ method is.
-    changed_as c.args.language.now c.args.kind c.in-Some.document _ _ _ method (given_of c.args.given) is
+    changed_as c.args.defined.now c.args.kind c.in-Some.document _ _ _ method (given_of c.args.given) is
     (sym c.in-Some.is ∙ c.in_ok-found.ensures) c.in_ok-reply-in-Some.ensures.kept
 
 pub returns-in_ok-reply-in-Some-clause-phase : goal.returns-in_ok-reply-in-Some-clause-phase
@@ -13,5 +13,5 @@ returns-in_ok-reply-in-Some-clause-phase g c = c.in_ok-reply-in-Some.ensures.kep
 
 pub returns-in-None-clause-served : goal.returns-in-None-clause-served
 returns-in-None-clause-served g c = λ method is.
-    unchanged_as c.args.language.now c.args.kind c.args.self.now method (given_of c.args.given) is
+    unchanged_as c.args.defined.now c.args.kind c.args.self.now method (given_of c.args.given) is
     (sym c.in-None.is ∙ c.in_ok-found.ensures)

@@ -9,7 +9,7 @@ use Rattle.psg_server.proofs.server.Server.complete.Goals as goal
 
 pub returns-in_ok-reply-in-Some : goal.returns-in_ok-reply-in-Some
 returns-in_ok-reply-in-Some g c = λ method is.
-    served_as c.args.language.now c.args.kind _ _ _ _ _ _ _ _ refl refl c.in_ok-reply-in-Some.ensures
+    served_as c.args.defined.now c.args.kind _ _ _ _ _ _ _ _ refl refl c.in_ok-reply-in-Some.ensures
     (completes (view c.args.id.now) method (given_of c.args.given) (place_of c.in-Some.place)
     (view c.in_ok-told-in-Some.told) is
     (sym c.place_in.ensures ∙ ap (λ o. option_map place_of o) c.in-Some.is)
@@ -17,6 +17,6 @@ returns-in_ok-reply-in-Some g c = λ method is.
 
 pub returns-in_ok-reply-in-None : goal.returns-in_ok-reply-in-None
 returns-in_ok-reply-in-None g c = λ method is.
-    served_as c.args.language.now c.args.kind _ _ _ _ _ _ _ _ refl refl c.in_ok-reply-in-None.ensures
+    served_as c.args.defined.now c.args.kind _ _ _ _ _ _ _ _ refl refl c.in_ok-reply-in-None.ensures
     (completes_none (view c.args.id.now) method (given_of c.args.given) is
     (sym c.place_in.ensures ∙ ap (λ o. option_map place_of o) c.in-None.is))

@@ -8,7 +8,7 @@ use Rattle.psg_server.proofs.server.Server.format.Goals as goal
 
 pub returns-in_ok-reply-in-Some : goal.returns-in_ok-reply-in-Some
 returns-in_ok-reply-in-Some g c = λ method is.
-    served_as c.args.language.now c.args.kind _ _ _ _ _ _ _ _ refl refl c.in_ok-reply-in-Some.ensures
+    served_as c.args.defined.now c.args.kind _ _ _ _ _ _ _ _ refl refl c.in_ok-reply-in-Some.ensures
     (formats (view c.args.id.now) method (given_of c.args.given) c.in-Some.document.now
     (view c.in_ok-edits-in-Some.edits) is
     (sym c.open_in.ensures ∙ ap (λ o. option_map (λ d. d.now) o) c.in-Some.is)
@@ -16,6 +16,6 @@ returns-in_ok-reply-in-Some g c = λ method is.
 
 pub returns-in_ok-reply-in-None : goal.returns-in_ok-reply-in-None
 returns-in_ok-reply-in-None g c = λ method is.
-    served_as c.args.language.now c.args.kind _ _ _ _ _ _ _ _ refl refl c.in_ok-reply-in-None.ensures
+    served_as c.args.defined.now c.args.kind _ _ _ _ _ _ _ _ refl refl c.in_ok-reply-in-None.ensures
     (formats_none (view c.args.id.now) method (given_of c.args.given) is
     (sym c.open_in.ensures ∙ ap (λ o. option_map (λ d. d.now) o) c.in-None.is))

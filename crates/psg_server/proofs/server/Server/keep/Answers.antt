@@ -5,5 +5,5 @@ use Rattle.psg_server.proofs.server.Server.keep.Goals as goal
 
 pub returns-clause-kept : goal.returns-clause-kept
 returns-clause-kept g c =
-    kept_as c.args.language.now c.args.kind c.args.document c.args.document _ _ _ (view c.in_ok-value.value) refl
+    kept_as c.args.defined.now c.args.kind c.args.document c.args.document _ _ _ (view c.in_ok-value.value) refl
     c.in_ok-put.ensures.ok refl refl c.in_ok-value.ensures refl

@@ -9,7 +9,7 @@ use Rattle.psg_server.proofs.server.Server.open.Goals as goal
 
 pub returns-in_ok-reply-in-Some-clause-served : goal.returns-in_ok-reply-in-Some-clause-served
 returns-in_ok-reply-in-Some-clause-served g c = λ method is.
-    opened_as c.args.language.now c.args.kind c.in_ok-document-in-Some.document _ _ _ method (given_of c.args.given) is
+    opened_as c.args.defined.now c.args.kind c.in_ok-document-in-Some.document _ _ _ method (given_of c.args.given) is
     (sym c.opened_in.ensures ∙ ap (λ o. option_map document_of o) c.in-Some.is
     ∙ ap (λ (d : Document). Some d) (sym c.in_ok-document-in-Some.ensures)) c.in_ok-reply-in-Some.ensures.kept
 

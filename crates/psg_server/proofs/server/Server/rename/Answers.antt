@@ -10,14 +10,14 @@ use Rattle.psg_server.proofs.server.Server.rename.Goals as goal
 
 pub returns-in_default : goal.returns-in_default
 returns-in_default g c = λ method is.
-    served_as c.args.language.now c.args.kind _ _ _ _ _ _ _ _ refl refl c.in_ok-reply.ensures
+    served_as c.args.defined.now c.args.kind _ _ _ _ _ _ _ _ refl refl c.in_ok-reply.ensures
     (names_none (view c.args.id.now) method (given_of c.args.given) is
     (inl (sym c.open_in.ensures ∙ ap (λ o. option_map (λ d. d.now) o) c.in_default.is)))
 
 pub returns-in_ok-reply-in-Some-naming_in : goal.returns-in_ok-reply-in-Some-naming_in
 returns-in_ok-reply-in-Some-naming_in g c = λ method is.
-    served_as c.args.language.now c.args.kind _ _ _ _ _ _ _ _ refl refl c.in_ok-reply-in-Some-naming_in.ensures
-    (named_row c.args.language.now c.args.kind c.args.self.now (view c.args.id.now) method (given_of c.args.given)
+    served_as c.args.defined.now c.args.kind _ _ _ _ _ _ _ _ refl refl c.in_ok-reply-in-Some-naming_in.ensures
+    (named_row c.args.defined.now c.args.kind c.args.self.now (view c.args.id.now) method (given_of c.args.given)
     c.in-Some.document.now (naming_of c.in-Some-naming_in.naming) c.in_ok-named-in-Some-naming_in.named is
     (sym c.open_in.ensures ∙ ap (λ o. option_map (λ d. d.now) o) c.in-Some.is)
     (sym c.naming_in.ensures ∙ ap (option_map naming_of) c.in-Some-naming_in.is)
@@ -25,6 +25,6 @@ returns-in_ok-reply-in-Some-naming_in g c = λ method is.
 
 pub returns-in_ok-reply-in-None : goal.returns-in_ok-reply-in-None
 returns-in_ok-reply-in-None g c = λ method is.
-    served_as c.args.language.now c.args.kind _ _ _ _ _ _ _ _ refl refl c.in_ok-reply-in-None.ensures
+    served_as c.args.defined.now c.args.kind _ _ _ _ _ _ _ _ refl refl c.in_ok-reply-in-None.ensures
     (names_none (view c.args.id.now) method (given_of c.args.given) is
     (inr (sym c.naming_in.ensures ∙ ap (option_map naming_of) c.in-None.is)))

@@ -14,7 +14,7 @@ returns-in-Pass-clause-gets g c =
 
 pub returns-in_ok-reply-in-Refuse-clause-gets : goal.returns-in_ok-reply-in-Refuse-clause-gets
 returns-in_ok-reply-in-Refuse-clause-gets g c =
-    refused_as c.args.language.now c.args.kind c.args.self.now (said_of c.args.message.now) _
+    refused_as c.args.defined.now c.args.kind c.args.self.now (said_of c.args.message.now) _
     (option_map (λ i. view i.now) c.in-Refuse.id) c.in-Refuse.fault
     (due_is c.args.self.now.phase c.is_known.result (said_of c.args.message.now) c.turn_of-turn.result
     (refused (option_map (λ i. view i.now) c.in-Refuse.id) c.in-Refuse.fault) c.is_known.ensures c.turn_of-turn.ensures
@@ -23,7 +23,7 @@ returns-in_ok-reply-in-Refuse-clause-gets g c =
 
 pub returns-in_ok-reply-in-Serve-clause-gets : goal.returns-in_ok-reply-in-Serve-clause-gets
 returns-in_ok-reply-in-Serve-clause-gets g c =
-    served_gets c.args.language.now c.args.kind c.args.self.now _ (said_of c.args.message.now) _
+    served_gets c.args.defined.now c.args.kind c.args.self.now _ (said_of c.args.message.now) _
     (due_is c.args.self.now.phase c.is_known.result (said_of c.args.message.now) c.turn_of-turn.result served
     c.is_known.ensures c.turn_of-turn.ensures (ap due_of c.in-Serve.is))
     c.in_ok-reply-in-Serve.ensures.served

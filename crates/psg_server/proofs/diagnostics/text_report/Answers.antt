@@ -1,0 +1,9 @@
+use Rattle.psg_server.proofs.diagnostics.text_report.Goals as goal
+
+pub returns : goal.returns
+returns g c = record {
+  comments = c.in_ok-own.own.comments.items;
+  judged = c.in_ok-own.own.bytes.items;
+  is_judged = c.in_ok-own.ensures;
+  so = c.in_ok-value.ensures;
+}
