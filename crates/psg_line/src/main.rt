@@ -23,8 +23,7 @@ const MOST_COLS: u32 = 10_000;
 fn chars_of(alloc: Global, text: &str) -> Result<Vec<char>, AllocError>
     ensures { IfOk result (λ all. all.items ≡ chars text.now) }
 {
-    let all = text.chars().collect::<Vec<char>>(alloc)?;
-    Ok(all)
+    text.chars().collect(alloc)
 }
 
 /// Returns the words that are completed: those before `--`, and those after it.
