@@ -3,7 +3,11 @@ local here = vim.fn.fnamemodify(vim.fn.resolve(vim.fn.expand("<sfile>:p")), ":h"
 vim.opt.runtimepath:append(here .. "/../../editors/nvim")
 local mini = here .. "/../../examples/mini.psg"
 local psg = require("psg")
-psg.setup({ psg = os.getenv("PSG"), languages = { { pattern = "*.mini", definition = mini, kind = "Stats" } } })
+local robot = here .. "/../../examples/gallery/robot.psg"
+psg.setup({ psg = os.getenv("PSG"), languages = {
+  { pattern = "*.mini", definition = mini, kind = "Stats" },
+  { pattern = "*.robot", definition = robot, kind = "Program" },
+} })
 
 local function told()
   return vim.tbl_map(function(it)
@@ -77,7 +81,52 @@ local function run_names()
   end)
 end
 
-local good, fault = pcall(function() run() run_names() end)
+-- a program of the gallery with two mistakes and three open places, from the first mark to a program that is laid out
+local function run_gallery()
+  local file = vim.fn.tempname() .. ".robot"
+  vim.fn.writefile({
+    "robot",
+    "  let pace = 2 metre / 1 second;",
+    "  drive 3 second at pace;",
+    "  turn ?Exp;",
+    "  wait 4 metre;",
+    "  repeat 2 times ... again;",
+    "  ...",
+    "end",
+  }, file)
+  vim.cmd("edit " .. file)
+  want("two mistakes", {
+    "2:8-2:9 1 wanted length, found time",
+    "4:7-4:8 1 wanted time, found length",
+  }, told)
+  -- in a wrong program too the menu is that of the place
+  local turns = { "name", "?Exp degree", "?Exp + ?Exp", "?Exp * ?Exp", "?Exp / ?Exp" }
+  want("the menu of an open place", turns, function()
+    local found = asked("textDocument/completion", 3, 11)
+    return found and vim.tbl_map(function(item) return item.label end, found.items)
+  end)
+  vim.api.nvim_buf_set_lines(0, 2, 3, false, { "  drive 3 metre at pace;" })
+  vim.api.nvim_buf_set_lines(0, 4, 5, false, { "  wait   4 second;" })
+  want("three open places", {
+    "3:7-3:11 4 ?Exp is open, wanted angle: name degree plus times per",
+    "5:17-5:18 4 the list is open: drive turn wait grab repeat let do",
+    "6:2-6:3 4 the list is open: drive turn wait grab repeat let do",
+  }, told)
+  want("hover", "Exp: name\nspeed", function()
+    local found = asked("textDocument/hover", 2, 20)
+    return found and found.contents.value
+  end)
+  vim.api.nvim_buf_set_lines(0, 3, 4, false, { "  turn 90 degree;" })
+  vim.api.nvim_win_set_cursor(0, { 2, 6 })
+  vim.lsp.buf.rename("speed")
+  want("rename", { "  let speed = 2 metre / 1 second;", "  drive 3 metre at speed;" }, function()
+    return vim.api.nvim_buf_get_lines(0, 1, 3, false)
+  end)
+  psg.format()
+  want("formatting", { "  wait 4 second;" }, function() return vim.api.nvim_buf_get_lines(0, 4, 5, false) end)
+end
+
+local good, fault = pcall(function() run() run_names() run_gallery() end)
 if not good then
   failed = failed + 1
   io.stdout:write(tostring(fault), "\n")
